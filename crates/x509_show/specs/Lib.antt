@@ -1,0 +1,4 @@
+pub mod Parts
+pub mod Report
+pub mod Answers
+pub mod Words
