@@ -8,10 +8,10 @@ use Rattle.x509_der.specs.declared.reading.Form.{Form}
 use Rattle.x509_der.specs.declared.reading.Form.TheVariants.{Strict, Loose}
 use Rattle.x509_der.specs.Reading.{Element, loose}
 use Rattle.x509_der.specs.Elements.{IsLength, Elem}
-use Rattle.x509_der.specs.Primitives.{Value}
+use Rattle.x509_der.specs.Primitives.{Value, as_refusal}
 use Rattle.x509_der.specs.Plan.{got, Plan, and_then, give, ◌>>=◌, soft, renamed, judged, made, end_with, to_end, all_behind, run, run1, container, trimmed, with_bytes, or_nothing, look, hard}
 use Rattle.x509_der.specs.Laws.{Agrees, Within, Encloses, Local, OneElement, Sober, Renames, IsField, IsLawful, IsElement, IsContents}
-use Rattle.x509_der.specs.Leaves.{header, element, contents, value, contents_or, bare_header}
+use Rattle.x509_der.specs.Leaves.{header, element, contents, value, valued, contents_or, bare_header}
 use Rattle.x509_der.specs.Promises.{is_ber_memory, refusal_by}
 use Rattle.x509_der.proofs.Results.{got_parts, then_ok, was_ok, judged_ok}
 use Rattle.x509_der.proofs.Agreement.{give_agrees, then_agrees, soft_agrees, renamed_agrees, made_agrees, end_agrees, all_behind_agrees, container_agrees}
@@ -19,7 +19,7 @@ use Rattle.x509_der.proofs.Extents.{trimmed_agrees, with_bytes_agrees, or_nothin
 use Rattle.x509_der.proofs.Runs.{run_agrees, run1_agrees}
 use Rattle.x509_der.proofs.Windows.{give_within, then_within, soft_within, renamed_within, made_within, end_within, all_behind_within, run_within, run1_within, or_nothing_within, look_within, hard_within, local_within, renamed_local, made_local, container_local, with_bytes_local, trimmed_local, renamed_encloses}
 use Rattle.x509_der.proofs.Leaves.{header_agrees, element_agrees, contents_agrees, value_agrees, header_local, element_local, contents_local, value_local, contents_encloses, contents_or_encloses}
-use Rattle.x509_der.proofs.Sobriety.{give_sober, then_sober, soft_sober, renamed_sober, named_sober, made_sober, end_sober, all_behind_sober, run_sober, some_sober, container_sober, trimmed_sober, with_bytes_sober, or_nothing_sober, look_sober, hard_sober, header_sober, element_sober, contents_sober, value_sober, tested_sober, lifts}
+use Rattle.x509_der.proofs.Sobriety.{give_sober, then_sober, soft_sober, renamed_sober, named_sober, made_sober, end_sober, all_behind_sober, run_sober, some_sober, container_sober, trimmed_sober, with_bytes_sober, or_nothing_sober, look_sober, hard_sober, header_sober, element_sober, contents_sober, value_sober, tested_sober, kind_refused, lifts}
 
 -- ---- what is read is one element
 
@@ -199,6 +199,9 @@ contents_or_laws is_memory blame why accepts form hb =
 -- a value that must pass a function, whose refusals are no want of memory
 pub made_laws : {E A B : Type 0} (is_memory : E → Bool) (p : Plan (Refusal E) A) (f : A → Result B (Refusal E)) → IsElement is_memory p → ((a : A) (r : Refusal E) → f a ≡ Err r → Rattle.x509_der.specs.Promises.is_excused is_memory true r ≡ false) → IsElement is_memory (made p f)
 made_laws is_memory p f h hf = record { lawful = record { agrees = made_agrees p f h.lawful.agrees; is_local = made_local p f h.lawful.is_local; one = made_one p f h.lawful.one }; sober = made_sober is_memory p f h.sober hf }
+
+pub valued_laws : {A : Type 0} (form : Form) (of : Element → Value A) → IsElement is_ber_memory (valued form of)
+valued_laws form of = made_laws is_ber_memory (element form) (λ e. as_refusal (of e)) (element_laws form) (λ e r x. kind_refused (of e) r x)
 
 pub container_laws : {E A : Type 0} (is_memory : E → Bool) (outer : Plan (Refusal E) (List ℕ)) (fields : Plan (Refusal E) A) → IsContents is_memory outer → IsField is_memory fields → IsElement is_memory (container outer fields)
 container_laws is_memory outer fields ho hf = record {

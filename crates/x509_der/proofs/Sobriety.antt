@@ -155,7 +155,8 @@ contents_sober accepts form = record {
   ];
 }
 
-kind_refused : {A : Type 0} (v : Value A) (r : Refusal BerError) → as_refusal v ≡ Err r → is_excused is_ber_memory true r ≡ false
+-- what is wrong with a value is no want of memory
+pub kind_refused : {A : Type 0} (v : Value A) (r : Refusal BerError) → as_refusal v ≡ Err r → is_excused is_ber_memory true r ≡ false
 kind_refused (Ok a) r e = absurd cc
 kind_refused (Err kind) refusals.Incomplete e = refl
 kind_refused (Err kind) (refusals.Error other) e = refl

@@ -36,7 +36,11 @@ value {A} accepts form of = record {
   read = value_at accepts form of;
 }
 
--- the same with refusals of another type, and a refusal of its own where the test fails
+-- a value of the whole element, its header and its contents
+abbrev pub valued : {A : Type 0} → Form → (Element → Value A) → BerPlan A
+valued form of = made (element form) (λ e. as_refusal (of e))
+
+-- the contents with refusals of another type, and a refusal of its own where the test fails
 abbrev pub contents_or : {F : Type 0} → (Refusal BerError → F) → F → (Header → Bool) → Form → Plan F (List ℕ)
 contents_or blame why accepts form = made (renamed blame (element form)) (λ e. if accepts e.header then Ok e.contents else Err why)
 

@@ -7,7 +7,7 @@ ghost use Rattle.x509_der.specs.Plan.{run, run1, soft, or_refuse, to_end};
 ghost use Rattle.x509_der.specs.Reading.{AddsAtLeast, Element};
 ghost use Rattle.x509_der.specs.Promises.{Answers, Counted, SoftCounted, IsForeign, ended_early, empty_run, option_view, option_heads};
 
-use crate::error::{BerError, Err, ErrorKind, ReadError};
+use crate::error::{Err, ErrorKind, ReadError};
 use crate::from_der::FromDer;
 use crate::list::Sequence;
 use crate::tries::Tries;
@@ -103,7 +103,7 @@ pub fn read_to_end<'a, E: ReadError, T: FromDer<'a, E> + Drop>(
     tries: &mut Tries,
     i: &'a [u8],
 ) -> Result<Sequence<T>, Err<E>>
-    ensures reads { Answers E.is_memory true (λ x. ([], map T.view x)) result ((to_end (ended_early E.of_ber) (run T.plan)).read i.now) }
+    ensures reads { Answers E.is_memory true (λ x. ([], map T.view x)) result ((to_end (ended_early E.of_list) (run T.plan)).read i.now) }
     ensures grows { tries.old ≤ tries.new }
     ensures count { tries.new ≤ tries.old + 8 * length i.now }
     ensures foreign { IsForeign T.form T.own i.now → tries.new ≤ tries.old + 1 }
@@ -111,7 +111,7 @@ pub fn read_to_end<'a, E: ReadError, T: FromDer<'a, E> + Drop>(
 {
     let (rest, members) = read_run(alloc, tries, i)?;
     if !rest.is_empty() {
-        return Err(Err::Error(E::from_ber(BerError::NomError(ErrorKind::Eof))));
+        return Err(Err::Error(E::from_list(ErrorKind::Eof)));
     }
     Ok(members)
 }
@@ -123,7 +123,7 @@ pub fn read_run1<'a, E: ReadError, T: FromDer<'a, E> + Drop>(
     tries: &mut Tries,
     i: &'a [u8],
 ) -> Result<(&'a [u8], Sequence<T>), Err<E>>
-    ensures reads { Answers E.is_memory true (λ x. (x.0.now, map T.view x.1)) result ((run1 (empty_run E.of_ber) T.plan).read i.now) }
+    ensures reads { Answers E.is_memory true (λ x. (x.0.now, map T.view x.1)) result ((run1 (empty_run E.of_list) T.plan).read i.now) }
     ensures grows { tries.old ≤ tries.new }
     ensures count { tries.new ≤ tries.old + 8 * length i.now }
     ensures within { IfOk result (λ x. length x.0.now ≤ length i.now) }
@@ -132,7 +132,7 @@ pub fn read_run1<'a, E: ReadError, T: FromDer<'a, E> + Drop>(
 {
     let (rest, members) = read_run(alloc, tries, i)?;
     if members.is_empty() {
-        return Err(Err::Error(E::from_ber(BerError::NomError(ErrorKind::Many1))));
+        return Err(Err::Error(E::from_list(ErrorKind::Many1)));
     }
     Ok((rest, members))
 }

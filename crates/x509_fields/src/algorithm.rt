@@ -1,0 +1,98 @@
+//! Algorithms.
+
+ghost use Rattle.std.specs.Prelude.{◌≡◌, Option, false};
+ghost use Rattle.x509_der.specs.Oid.{oid_bytes};
+ghost use Rattle.x509_der.specs.Primitives.{is_constructed};
+ghost use Rattle.x509_der.specs.Promises.{option_view};
+ghost use Rattle.x509_der.specs.Reading.{element_of, strict};
+ghost use Rattle.x509_fields.specs.Algorithms.{Algorithm, algorithm_of, algorithm_heads};
+ghost use Rattle.x509_fields.specs.Fields.{algorithm};
+ghost use Rattle.x509_fields.specs.Laws.{algorithm_laws};
+
+use crate::error::X509Error;
+use std::alloc::Global;
+use x509_der::{Any, Err, FromDer, Oid, Tries, read_any, read_oid, read_sequence};
+
+/// An algorithm and its parameters, where they stand (RFC 5280, section 4.1.1.2).
+///
+/// ```text
+/// AlgorithmIdentifier  ::=  SEQUENCE  {
+///     algorithm   OBJECT IDENTIFIER,
+///     parameters  ANY DEFINED BY algorithm OPTIONAL  }
+/// ```
+///
+/// Parameters that cannot be read are absent.
+#[derive(Clone, Copy, Debug, PartialEq)]
+pub struct AlgorithmIdentifier<'a> {
+    pub algorithm: Oid<'a>,
+    pub parameters: Option<Any<'a>>,
+}
+
+impl<'a> AlgorithmIdentifier<'a> {
+    /// The algorithm with this identifier and these parameters.
+    pub const fn new(algorithm: Oid<'a>, parameters: Option<Any<'a>>) -> AlgorithmIdentifier<'a>
+        ensures { algorithm_of result ≡ record { algorithm = oid_bytes algorithm.entry; parameters = option_view element_of parameters.entry } }
+    {
+        AlgorithmIdentifier {
+            algorithm,
+            parameters,
+        }
+    }
+
+    /// The identifier.
+    pub const fn oid(&self) -> &Oid<'a>
+        ensures { oid_bytes result.now ≡ (algorithm_of self.now).algorithm }
+    {
+        &self.algorithm
+    }
+
+    /// The parameters, where they stand and can be read.
+    pub fn parameters(&self) -> Option<&Any<'a>>
+        ensures { option_view (λ any. element_of any.now) result ≡ (algorithm_of self.now).parameters }
+    {
+        self.parameters.as_ref()
+    }
+}
+
+impl<'a> FromDer<'a, X509Error> for AlgorithmIdentifier<'a> {
+    ghost Value = { Algorithm };
+
+    ghost view = { algorithm_of };
+
+    ghost plan = { algorithm };
+
+    ghost laws = { algorithm_laws.lawful };
+
+    ghost form = { strict };
+
+    ghost own = { is_constructed 16 };
+
+    ghost heads = { algorithm_heads };
+
+    ghost takes_memory = { false };
+
+    #[tactic(auto, unfolding(crate::specs::Fields::algorithm))]
+    fn read(
+        _alloc: Global,
+        tries: &mut Tries,
+        i: &'a [u8],
+    ) -> Result<(&'a [u8], Self), Err<X509Error>> {
+        let (rest, contents) = read_sequence(tries, i).map_err(|e| e.convert())?;
+        let (tail, algorithm) = read_oid(tries, contents).map_err(|_| Err::Error(
+            X509Error::InvalidAlgorithmIdentifier,
+        ))?;
+        let parameters = match read_any(tries, tail) {
+            Ok((_, any)) => Some(any),
+            Err(_) => None,
+        };
+        Ok((
+            rest,
+            AlgorithmIdentifier {
+                algorithm,
+                parameters,
+            },
+        ))
+    }
+
+    ghost sober = { algorithm_laws.sober };
+}
