@@ -1,0 +1,94 @@
+//! One extension.
+
+ghost use Rattle.std.specs.Prelude.{◌≡◌, true};
+ghost use Rattle.x509_der.specs.Oid.{oid_bytes};
+ghost use Rattle.x509_der.specs.Primitives.{is_constructed};
+ghost use Rattle.x509_der.specs.Reading.{strict};
+ghost use Rattle.x509_extensions.specs.Extensions.{Extension, extension_of, extension_heads, parsed_of};
+ghost use Rattle.x509_extensions.specs.ExtensionGrammar.{extension};
+ghost use Rattle.x509_extensions.specs.ExtensionLaws.{extension_laws};
+
+use crate::parsed::ParsedExtension;
+use crate::parser::X509ExtensionParser;
+use std::alloc::Global;
+use x509_der::{Err, FromDer, Oid, Tries};
+use x509_fields::X509Error;
+
+/// An extension of a certificate, of a list or of an entry of one (RFC 5280, section 4.2).
+///
+/// ```text
+/// Extension  ::=  SEQUENCE  {
+///     extnID      OBJECT IDENTIFIER,
+///     critical    BOOLEAN DEFAULT FALSE,
+///     extnValue   OCTET STRING  }
+/// ```
+///
+/// A value that can't be read hides nothing else: it is a [`ParsedExtension::ParseError`].
+#[derive(Debug, Drop, PartialEq)]
+pub struct X509Extension<'a> {
+    /// Which extension it is.
+    pub oid: Oid<'a>,
+    /// Whether who doesn't know the extension must refuse the certificate or list.
+    pub critical: bool,
+    /// The contents of the OCTET STRING.
+    pub value: &'a [u8],
+    pub(crate) parsed_extension: ParsedExtension<'a>,
+}
+
+impl<'a> X509Extension<'a> {
+    /// The extension of these parts.
+    pub fn new(
+        oid: Oid<'a>,
+        critical: bool,
+        value: &'a [u8],
+        parsed_extension: ParsedExtension<'a>,
+    ) -> X509Extension<'a>
+        ensures oid { result.oid ≡ oid.entry }
+        ensures critical { result.critical ≡ critical }
+        ensures value { result.value.now ≡ value.now }
+        ensures parsed { result.parsed_extension ≡ parsed_extension.entry }
+    {
+        X509Extension {
+            oid,
+            critical,
+            value,
+            parsed_extension,
+        }
+    }
+
+    /// What the value says.
+    pub fn parsed_extension(&self) -> &ParsedExtension<'a>
+        ensures { result.now ≡ self.now.parsed_extension }
+    {
+        &self.parsed_extension
+    }
+}
+
+/// The extension with what its value says. Every refusal is `InvalidExtensions`.
+impl<'a> FromDer<'a, X509Error> for X509Extension<'a> {
+    ghost Value = { Extension };
+
+    ghost view = { extension_of };
+
+    ghost plan = { extension true };
+
+    ghost laws = { (extension_laws true).lawful };
+
+    ghost form = { strict };
+
+    ghost own = { is_constructed 16 };
+
+    ghost heads = { extension_heads };
+
+    ghost takes_memory = { true };
+
+    fn read(
+        alloc: Global,
+        tries: &mut Tries,
+        i: &'a [u8],
+    ) -> Result<(&'a [u8], Self), Err<X509Error>> {
+        X509ExtensionParser::new().read(alloc, tries, i)
+    }
+
+    ghost sober = { (extension_laws true).sober };
+}
