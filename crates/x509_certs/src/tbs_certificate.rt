@@ -1,0 +1,160 @@
+//! The part of a certificate that is signed.
+
+ghost use Rattle.std.specs.Prelude.{◌≡◌, MatchResult, codes, string_bytes, true};
+ghost use Rattle.x509_der.specs.Hex.{hex_text};
+ghost use Rattle.x509_der.specs.Primitives.{is_constructed};
+ghost use Rattle.x509_der.specs.Reading.{strict};
+ghost use Rattle.x509_fields.specs.declared.error.X509Error.TheVariants.{OutOfMemory};
+ghost use Rattle.x509_certs.specs.Certificates.{Tbs, tbs_of, tbs_heads};
+ghost use Rattle.x509_certs.specs.CertificateGrammar.{tbs};
+ghost use Rattle.x509_certs.specs.CertificateLaws.{tbs_laws};
+ghost use Rattle.x509_certs.specs.Iterating.{extensions_left};
+
+use crate::extension_iter::ExtensionIter;
+use crate::tbs_parser::TbsCertificateParser;
+use crate::unique_identifier::UniqueIdentifier;
+use crate::validity::Validity;
+use std::alloc::Global;
+use x509_der::{Err, FromDer, Sequence, Tries, UnsignedBytes};
+use x509_extensions::X509Extension;
+use x509_fields::{AlgorithmIdentifier, X509Error, X509Name, X509Version, format_serial};
+use x509_keys::SubjectPublicKeyInfo;
+
+/// The part of a certificate that is signed (RFC 5280, section 4.1.2).
+///
+/// ```text
+/// TBSCertificate  ::=  SEQUENCE  {
+///     version          [0]  EXPLICIT Version DEFAULT v1,
+///     serialNumber          CertificateSerialNumber,
+///     signature             AlgorithmIdentifier,
+///     issuer                Name,
+///     validity              Validity,
+///     subject               Name,
+///     subjectPublicKeyInfo  SubjectPublicKeyInfo,
+///     issuerUniqueID   [1]  IMPLICIT UniqueIdentifier OPTIONAL,
+///     subjectUniqueID  [2]  IMPLICIT UniqueIdentifier OPTIONAL,
+///     extensions       [3]  EXPLICIT Extensions OPTIONAL  }
+/// ```
+#[derive(Debug, Drop, PartialEq)]
+pub struct TbsCertificate<'a> {
+    /// The first version where none is written.
+    pub version: X509Version,
+    /// The serial as an unsigned number, whatever its sign.
+    pub serial: UnsignedBytes<'a>,
+    /// The algorithm that the signature is made with, as the signed part names it.
+    pub signature: AlgorithmIdentifier<'a>,
+    pub issuer: X509Name<'a>,
+    pub validity: Validity,
+    pub subject: X509Name<'a>,
+    pub subject_pki: SubjectPublicKeyInfo<'a>,
+    pub issuer_uid: Option<UniqueIdentifier<'a>>,
+    pub subject_uid: Option<UniqueIdentifier<'a>>,
+    pub(crate) extensions: Sequence<X509Extension<'a>>,
+    pub(crate) raw: &'a [u8],
+    pub(crate) raw_serial: &'a [u8],
+}
+
+impl<'a> TbsCertificate<'a> {
+    /// The version.
+    pub fn version(&self) -> X509Version
+        ensures { result ≡ self.now.version }
+    {
+        self.version
+    }
+
+    /// Whom the certificate is about.
+    pub fn subject(&self) -> &X509Name<'a>
+        ensures { result.now ≡ self.now.subject }
+    {
+        &self.subject
+    }
+
+    /// Who signed it.
+    pub fn issuer(&self) -> &X509Name<'a>
+        ensures { result.now ≡ self.now.issuer }
+    {
+        &self.issuer
+    }
+
+    /// When it is valid.
+    pub fn validity(&self) -> &Validity
+        ensures { result.now ≡ self.now.validity }
+    {
+        &self.validity
+    }
+
+    /// The key of the subject.
+    pub fn public_key(&self) -> &SubjectPublicKeyInfo<'a>
+        ensures { result.now ≡ self.now.subject_pki }
+    {
+        &self.subject_pki
+    }
+
+    /// The extensions, in order; two may have one identifier.
+    pub fn extensions(&self) -> &[X509Extension<'a>]
+        ensures { result.now ≡ self.now.extensions }
+    {
+        self.extensions.as_slice()
+    }
+
+    /// Iterates over the extensions, in order.
+    pub fn iter_extensions(&self) -> ExtensionIter<'_, 'a>
+        ensures { extensions_left result ≡ self.now.extensions }
+    {
+        ExtensionIter::new(self.extensions())
+    }
+
+    /// The contents octets of the serial, as they stand.
+    pub fn raw_serial(&self) -> &'a [u8]
+        ensures { result.now ≡ (tbs_of self.now).raw_serial }
+    {
+        self.raw_serial
+    }
+
+    /// The contents octets of the serial in lower-case hex with colons between them, as `01:02:ff`.
+    ///
+    /// # Errors
+    ///
+    /// `OutOfMemory`.
+    pub fn raw_serial_as_string(&self, alloc: Global) -> Result<String, X509Error>
+        ensures { MatchResult result (λ s. string_bytes s ≡ hex_text (codes ":") (tbs_of self.now).raw_serial) (λ e. e ≡ OutOfMemory) }
+    {
+        format_serial(alloc, self.raw_serial)
+    }
+
+    /// The bytes that are signed: the whole element, with its header.
+    pub fn as_ref(&self) -> &'a [u8]
+        ensures { result.now ≡ (tbs_of self.now).raw }
+    {
+        self.raw
+    }
+}
+
+/// The signed part alone, its extensions with what their values say.
+impl<'a> FromDer<'a, X509Error> for TbsCertificate<'a> {
+    ghost Value = { Tbs };
+
+    ghost view = { tbs_of };
+
+    ghost plan = { tbs true };
+
+    ghost laws = { (tbs_laws true).lawful };
+
+    ghost form = { strict };
+
+    ghost own = { is_constructed 16 };
+
+    ghost heads = { tbs_heads };
+
+    ghost takes_memory = { true };
+
+    fn read(
+        alloc: Global,
+        tries: &mut Tries,
+        i: &'a [u8],
+    ) -> Result<(&'a [u8], Self), Err<X509Error>> {
+        TbsCertificateParser::new().read(alloc, tries, i)
+    }
+
+    ghost sober = { (tbs_laws true).sober };
+}
