@@ -2,9 +2,10 @@
 use Rattle.std.specs.Prelude.{◌≡◌, ℕ, ◌<◌, List, take, Bool, true, Option}
 use Rattle.std.specs.Io.KnownBytes.{Appends, Keeps}
 use Rattle.x509_show.specs.Parts.{IsDrainedOf}
-use Rattle.x509_show.specs.Report.{Report, IsReport, IsOnly, IsCommand}
-use Rattle.x509_show.specs.declared.answer.Stop.{Stop}
-use Rattle.x509_show.specs.declared.answer.Stop.TheVariants as stop
+use Rattle.x509_show.specs.Report.{Report, IsOnly}
+use Rattle.x509_show.specs.Commands.{IsReport, IsCommand}
+use Rattle.x509_show.specs.declared.stop.Stop.{Stop}
+use Rattle.x509_show.specs.declared.stop.Stop.TheVariants as stop
 
 -- It wrote the whole of the one report of an input. With 0 and 1 that input is all that the source had.
 pub record IsAnswered (command : List ℕ) (had left held holds : Option (List ℕ)) (status : ℕ) : Type 0 where

@@ -1,4 +1,7 @@
 pub mod Parts
 pub mod Report
+pub mod ElementReport
+pub mod CertificateReport
+pub mod Commands
 pub mod Answers
 pub mod Words

@@ -4,34 +4,17 @@ ghost use Rattle.std.specs.Prelude.{◌≡◌, ◌<◌, ◌≤◌, IfOk, OnOk, I
 ghost use Rattle.std.specs.Io.KnownBytes.{Appends};
 ghost use Rattle.x509_show.specs.Parts.{IsDrainedOf};
 ghost use Rattle.x509_show.specs.Answers.{IsAnswered, IsStopped, ReadStops, WriteStops};
-ghost use Rattle.x509_show.specs.Report.{IsCommand};
-ghost use Rattle.x509_show.specs.declared.answer.Stop.{Stop};
+ghost use Rattle.x509_show.specs.Commands.{IsCommand};
+ghost use Rattle.x509_show.specs.declared.stop.Stop.{Stop};
 
+use crate::commands::Command;
 use crate::parts::{Sink, Source};
-use crate::report::{USAGE, WRONG_WORDS, element_report};
-use std::alloc::{AllocError, Global};
+use crate::report::{USAGE, WRONG_WORDS};
+use crate::stop::Stop;
+use std::alloc::Global;
 
 /// The exit status of a run that could not read its input or write its text, or that had no memory.
 pub const STOPPED: u8 = 3;
-
-/// Why a run has no report to give.
-#[derive(Debug, Drop)]
-pub enum Stop {
-    /// A read failed.
-    Read,
-    /// A write failed, or took no byte.
-    Write,
-    /// Memory was refused.
-    Memory,
-}
-
-impl From<AllocError> for Stop {
-    ghost from_gives = { λ _ s. s ≡ Stop.Memory };
-
-    fn from(_refused: AllocError) -> Stop {
-        Stop::Memory
-    }
-}
 
 /// All that the source has still to give: a read of no bytes is the end.
 #[tactic(auto, using(crate::proofs::Transfers::transfers))]
@@ -92,12 +75,12 @@ pub fn respond<S: Source, W: Sink>(
         (W.has_failed writer.old) (W.has_failed writer.new)
         (W.written writer.old) (W.written writer.new)) }
 {
-    if command != "der" {
+    let Some(command) = Command::of_word(command) else {
         write_whole(writer, USAGE)?;
         return Ok(WRONG_WORDS);
-    }
+    };
     let input = read_whole(alloc, reader)?;
-    let report = element_report(alloc, &input)?;
+    let report = command.report(alloc, &input)?;
     write_whole(writer, report.text().as_bytes())?;
     Ok(report.status())
 }

@@ -2,8 +2,12 @@
 #![tactic(auto)]
 
 mod answer;
+mod certificate_report;
+mod commands;
+mod element_report;
 mod parts;
 mod report;
+mod stop;
 mod streams;
 #[cfg(test)]
 mod tests;

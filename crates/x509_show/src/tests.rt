@@ -1,11 +1,12 @@
 //! Runs over memory, and over readers and writers of std.
 
+mod certificates;
 mod memory;
 
 use self::memory::{MemorySink, MemorySource};
 use crate::answer::run;
+use crate::element_report::element_report;
 use crate::parts::{Sink, Source};
-use crate::report::element_report;
 use crate::streams::{Reading, Writing};
 use std::test::Fail;
 
@@ -68,7 +69,7 @@ fn inputs(rt: HostRuntime) -> Result<(), Fail> {
 
 #[test]
 fn other_words(rt: HostRuntime) -> Result<(), Fail> {
-    for command in ["", "cert", "crl", "csr", "pem", "der x"] {
+    for command in ["", "crl", "csr", "pem", "der x"] {
         let mut from = MemorySource::new(CERTIFICATE, 0, 1);
         let mut to = MemorySink::new(Vec::new(rt.alloc()), 1000, 1000, 5);
         assert_eq!(rt; run(rt.alloc(), command, &mut from, &mut to), 2);

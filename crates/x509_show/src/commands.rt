@@ -1,0 +1,44 @@
+//! What the program can be asked for.
+
+ghost use Rattle.std.specs.Prelude.{◌≡◌, MatchOption, MatchResult};
+ghost use Rattle.x509_show.specs.declared.stop.Stop.TheVariants.{Memory};
+ghost use Rattle.x509_show.specs.Report.{IsOnly};
+ghost use Rattle.x509_show.specs.Commands.{IsCommand, IsReport, command_word};
+
+use crate::certificate_report::certificate_report;
+use crate::element_report::element_report;
+use crate::report::Report;
+use crate::stop::Stop;
+use std::alloc::Global;
+
+/// A command that has a report of an input.
+#[derive(Clone, Copy)]
+pub enum Command {
+    /// The element at the front.
+    Der,
+    /// The certificate at the front.
+    Cert,
+}
+
+impl Command {
+    /// The command of this word; nothing where it is a word of none.
+    pub fn of_word(word: &str) -> Option<Command>
+        ensures { MatchOption result (¬ IsCommand word.now) (λ command. word.now ≡ command_word command) }
+    {
+        match word {
+            "der" => Some(Command::Der),
+            "cert" => Some(Command::Cert),
+            _ => None,
+        }
+    }
+
+    /// The report of an input. The only error is [`Stop::Memory`].
+    pub fn report(self, alloc: Global, input: &[u8]) -> Result<Report, Stop>
+        ensures { MatchResult result (λ r. IsOnly (IsReport (command_word self) input.now) r) (λ stop. stop ≡ Memory) }
+    {
+        match self {
+            Command::Der => Ok(element_report(alloc, input)?),
+            Command::Cert => certificate_report(alloc, input),
+        }
+    }
+}
