@@ -34,6 +34,7 @@ pub struct X509Certificate<'a> {
     pub tbs_certificate: TbsCertificate<'a>,
     /// The algorithm of the signature.
     pub signature_algorithm: AlgorithmIdentifier<'a>,
+    /// The bits of the signature.
     pub signature_value: BitString<'a>,
     pub(crate) raw: &'a [u8],
 }

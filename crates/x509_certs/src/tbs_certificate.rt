@@ -43,11 +43,17 @@ pub struct TbsCertificate<'a> {
     pub serial: UnsignedBytes<'a>,
     /// The algorithm that the signature is made with, as the signed part names it.
     pub signature: AlgorithmIdentifier<'a>,
+    /// Who signed it.
     pub issuer: X509Name<'a>,
+    /// When it is valid.
     pub validity: Validity,
+    /// Whom the certificate is about.
     pub subject: X509Name<'a>,
+    /// The key of the subject, and its algorithm.
     pub subject_pki: SubjectPublicKeyInfo<'a>,
+    /// What tells issuers of one name apart, where it stands.
     pub issuer_uid: Option<UniqueIdentifier<'a>>,
+    /// What tells subjects of one name apart, where it stands.
     pub subject_uid: Option<UniqueIdentifier<'a>>,
     pub(crate) extensions: Sequence<X509Extension<'a>>,
     pub(crate) raw: &'a [u8],

@@ -22,7 +22,9 @@ use x509_fields::{ASN1Time, X509Error};
 /// ```
 #[derive(Clone, Copy, Debug, PartialEq, Eq)]
 pub struct Validity {
+    /// The first moment.
     pub not_before: ASN1Time,
+    /// The last moment.
     pub not_after: ASN1Time,
 }
 
