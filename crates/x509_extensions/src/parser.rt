@@ -137,8 +137,8 @@ impl X509ExtensionParser {
     /// Reads the extensions that close a structure: none where nothing is left, else a wrapper with this tag number and
     /// the SEQUENCE of extensions, to the end of the bytes.
     ///
-    /// Of the wrapper the number alone is looked at, as other readers do: its class is free, and so is its length, which
-    /// the end of the structure makes superfluous.
+    /// Of the wrapper the number alone is looked at, as other readers do: its class is free, and so is the length that it
+    /// says, in the fewest octets, which the end of the structure makes superfluous.
     ///
     /// # Errors
     ///
