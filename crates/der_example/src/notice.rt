@@ -3,12 +3,11 @@
 ghost use Rattle.std.specs.Prelude.{◌+◌, ℕ, List, length, true};
 ghost use Rattle.x509_der.specs.Primitives.{is_constructed};
 ghost use Rattle.x509_der.specs.Reading.{strict};
-ghost use Rattle.der_example.specs.Notice.{NoticeValue, notice_of, notice, notice_heads};
-ghost use Rattle.der_example.specs.Laws.{notice_laws};
+ghost use Rattle.der_example.specs.Notice.{NoticeValue, notice_of, notice, notice_heads, notice_laws};
 
 use crate::topic::{Editions, Topics};
 use std::alloc::Global;
-use x509_der::{BerError, Err, FromDer, Tries, read_sequence, read_soft, read_u32};
+use x509_der::{BerError, Elements, Err, FromDer, Place, Tries, soft_at};
 
 /// A notice.
 #[derive(Drop)]
@@ -25,33 +24,40 @@ impl<'a> FromDer<'a, BerError> for Notice<'a> {
 
     ghost plan = { notice };
 
-    ghost laws = { notice_laws.lawful };
+    ghost laws = { notice_laws.laws.lawful };
+
+    ghost marked = { notice_laws.marked };
 
     ghost form = { strict };
 
-    ghost own = { is_constructed 16 };
+    ghost own_tag = { is_constructed 16 };
 
     ghost heads = { notice_heads };
 
     ghost takes_memory = { true };
 
-    #[tactic(auto, unfolding(crate::specs::Notice::notice))]
-    fn read(
+    #[tactic(auto, unfolding(crate::specs::Notice::notice), using(x509_der::proofs::Marking::marks_of_readers))]
+    fn read_at(
         alloc: Global,
         tries: &mut Tries,
-        i: &'a [u8],
-    ) -> Result<(&'a [u8], Self), Err<BerError>> {
-        let (rest, contents) = read_sequence(tries, i)?;
-        let (tail, topics) = read_soft(alloc, tries, contents)?;
-        let (tail, editions) = read_soft(alloc, tries, tail)?;
-        let (_, limit) = read_u32(tries, tail)?;
+        place: &Place<'a>,
+    ) -> Result<(Self, bool), Err<BerError>> {
+        let contents = place.sequence()?;
+        let children: Elements<'_, 3> = Elements::cut(tries, contents);
+        let (k, topics, first) = soft_at(alloc, tries, &children, 0)?;
+        let (k, editions, second) = soft_at(alloc, tries, &children, k)?;
+        let last = children.at(k);
+        let limit = last.u32()?;
         let notice = Notice {
             topics,
             editions,
             limit,
         };
-        Ok((rest, notice))
+        Ok((notice, first & second & last.rest().is_empty()))
     }
 
-    ghost sober = { notice_laws.sober };
+    ghost never_memory = { notice_laws.laws.never_memory };
 }
+
+#[cfg(test)]
+mod tests;

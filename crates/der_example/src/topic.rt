@@ -3,14 +3,10 @@
 ghost use Rattle.std.specs.Prelude.{◌+◌, ℕ, List, length, false, true};
 ghost use Rattle.x509_der.specs.Primitives.{is_constructed, is_primitive};
 ghost use Rattle.x509_der.specs.Reading.{strict};
-ghost use Rattle.der_example.specs.Notice.{topic_of, topics_of, editions_of, topic, topics, editions, list_heads};
-ghost use Rattle.der_example.specs.Laws.{topic_laws, topics_laws, editions_laws};
+ghost use Rattle.der_example.specs.Topics.{topic_of, topics_of, editions_of, topic, topics, editions, list_heads, topic_laws, topics_laws, editions_laws};
 
 use std::alloc::Global;
-use x509_der::{
-    BerError, Err, FromDer, Oid, Sequence, Tries, read_oid, read_run1, read_sequence, read_set,
-    read_to_end,
-};
+use x509_der::{BerError, Err, FromDer, Oid, Place, Sequence, Tries, read_run1, read_to_end};
 
 /// What a notice is about.
 #[derive(Clone, Copy)]
@@ -25,27 +21,29 @@ impl<'a> FromDer<'a, BerError> for Topic<'a> {
 
     ghost plan = { topic };
 
-    ghost laws = { topic_laws.lawful };
+    ghost laws = { topic_laws.laws.lawful };
+
+    ghost marked = { topic_laws.marked };
 
     ghost form = { strict };
 
-    ghost own = { is_primitive 6 };
+    ghost own_tag = { is_primitive 6 };
 
     ghost heads = { λ _. 1 };
 
     ghost takes_memory = { false };
 
-    #[tactic(auto, unfolding(crate::specs::Notice::topic, x509_der::specs::Leaves::identifier, x509_der::specs::Primitives::contents_at))]
-    fn read(
+    #[tactic(auto, unfolding(crate::specs::Topics::topic, x509_der::specs::Leaves::oid, x509_der::specs::Primitives::contents_at), using(x509_der::proofs::Marking::marks_of_readers))]
+    fn read_at(
         _alloc: Global,
-        tries: &mut Tries,
-        i: &'a [u8],
-    ) -> Result<(&'a [u8], Self), Err<BerError>> {
-        let (rest, id) = read_oid(tries, i)?;
-        Ok((rest, Topic { id }))
+        _tries: &mut Tries,
+        place: &Place<'a>,
+    ) -> Result<(Self, bool), Err<BerError>> {
+        let id = place.oid()?;
+        Ok((Topic { id }, true))
     }
 
-    ghost sober = { topic_laws.sober };
+    ghost never_memory = { topic_laws.laws.never_memory };
 }
 
 /// Topics in a SEQUENCE that they fill.
@@ -61,28 +59,30 @@ impl<'a> FromDer<'a, BerError> for Topics<'a> {
 
     ghost plan = { topics };
 
-    ghost laws = { topics_laws.lawful };
+    ghost laws = { topics_laws.laws.lawful };
+
+    ghost marked = { topics_laws.marked };
 
     ghost form = { strict };
 
-    ghost own = { is_constructed 16 };
+    ghost own_tag = { is_constructed 16 };
 
     ghost heads = { list_heads };
 
     ghost takes_memory = { true };
 
-    #[tactic(auto, unfolding(crate::specs::Notice::topics))]
-    fn read(
+    #[tactic(auto, unfolding(crate::specs::Topics::topics), using(x509_der::proofs::Marking::marks_of_readers))]
+    fn read_at(
         alloc: Global,
         tries: &mut Tries,
-        i: &'a [u8],
-    ) -> Result<(&'a [u8], Self), Err<BerError>> {
-        let (rest, contents) = read_sequence(tries, i)?;
-        let list = read_to_end(alloc, tries, contents)?;
-        Ok((rest, Topics { list }))
+        place: &Place<'a>,
+    ) -> Result<(Self, bool), Err<BerError>> {
+        let contents = place.sequence()?;
+        let (list, plain) = read_to_end(alloc, tries, contents)?;
+        Ok((Topics { list }, plain))
     }
 
-    ghost sober = { topics_laws.sober };
+    ghost never_memory = { topics_laws.laws.never_memory };
 }
 
 /// Topics at the beginning of a SET, at least one.
@@ -98,26 +98,31 @@ impl<'a> FromDer<'a, BerError> for Editions<'a> {
 
     ghost plan = { editions };
 
-    ghost laws = { editions_laws.lawful };
+    ghost laws = { editions_laws.laws.lawful };
+
+    ghost marked = { editions_laws.marked };
 
     ghost form = { strict };
 
-    ghost own = { is_constructed 17 };
+    ghost own_tag = { is_constructed 17 };
 
     ghost heads = { list_heads };
 
     ghost takes_memory = { true };
 
-    #[tactic(auto, unfolding(crate::specs::Notice::editions))]
-    fn read(
+    #[tactic(auto, unfolding(crate::specs::Topics::editions), using(x509_der::proofs::Marking::marks_of_readers))]
+    fn read_at(
         alloc: Global,
         tries: &mut Tries,
-        i: &'a [u8],
-    ) -> Result<(&'a [u8], Self), Err<BerError>> {
-        let (rest, contents) = read_set(tries, i)?;
-        let (_, list) = read_run1(alloc, tries, contents)?;
-        Ok((rest, Editions { list }))
+        place: &Place<'a>,
+    ) -> Result<(Self, bool), Err<BerError>> {
+        let contents = place.set()?;
+        let (tail, list, plain) = read_run1(alloc, tries, contents)?;
+        Ok((Editions { list }, plain & tail.is_empty()))
     }
 
-    ghost sober = { editions_laws.sober };
+    ghost never_memory = { editions_laws.laws.never_memory };
 }
+
+#[cfg(test)]
+mod tests;

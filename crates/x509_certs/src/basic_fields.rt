@@ -1,17 +1,19 @@
 //! The fields that every certificate has, whatever its version.
 
-ghost use Rattle.std.specs.Prelude.{◌≡◌, ◌≤◌, ◌+◌, ◌*◌, IfOk, length, true};
-ghost use Rattle.x509_der.specs.Promises.{Answers, Counted};
+ghost use Rattle.std.specs.Prelude.{◌≡◌, ◌<◌, ◌≤◌, ◌+◌, ◌-◌, ◌*◌, IfOk, length, true};
+ghost use Rattle.x509_der.specs.Children.{window_of, count_of};
+ghost use Rattle.x509_der.specs.Looks.{place_at};
+ghost use Rattle.x509_der.specs.Promises.{Answers};
 ghost use Rattle.x509_der.specs.Reading.{AddsAtLeast};
 ghost use Rattle.x509_fields.specs.Errors.{is_x509_memory};
-ghost use Rattle.x509_certs.specs.Certificates.{basic_fields_of, basic_fields_heads};
-ghost use Rattle.x509_certs.specs.CertificateGrammar.{basic_fields};
+ghost use Rattle.x509_certs.specs.BasicFields.{basic_fields_of, basic_fields_heads, basic_fields};
 
-use crate::tbs_fields::{read_serial, read_version};
+use crate::explicit_version::read_version;
+use crate::serial::read_serial;
 use crate::validity::Validity;
 use std::alloc::Global;
-use x509_der::{FromDer, Tries};
-use x509_fields::{AlgorithmIdentifier, X509Name, X509Result, X509Version};
+use x509_der::{Elements, Err, Tries, field_at};
+use x509_fields::{AlgorithmIdentifier, X509Error, X509Name, X509Version};
 use x509_keys::SubjectPublicKeyInfo;
 
 /// The fields before those that the second and third versions add.
@@ -26,29 +28,32 @@ pub(crate) struct BasicFields<'a> {
     pub(crate) subject_pki: SubjectPublicKeyInfo<'a>,
 }
 
-/// Reads these fields, in order.
-#[tactic(auto, unfolding(crate::specs::CertificateGrammar::basic_fields))]
-pub(crate) fn read_basic_fields<'a>(
+/// Reads these fields, in order, and gives the number of the next place.
+#[tactic(auto, unfolding(crate::specs::BasicFields::basic_fields), using(x509_der::proofs::Marking::marks_of_readers))]
+pub(crate) fn read_basic_fields<'a, const N: usize>(
     alloc: Global,
     tries: &mut Tries,
-    i: &'a [u8],
-) -> X509Result<'a, BasicFields<'a>>
-    ensures reads { Answers is_x509_memory true (λ x. (x.0.now, basic_fields_of x.1)) result (basic_fields.read i.now) }
+    children: &Elements<'a, N>,
+) -> Result<(usize, BasicFields<'a>, bool), Err<X509Error>>
+    requires { 7 < N }
+    ensures reads { Answers is_x509_memory true (λ x. (place_at (window_of children.now) x.0, basic_fields_of x.1)) result (basic_fields.read (window_of children.now)) }
+    ensures marks { IfOk result (λ x. x.2 ≡ basic_fields.marks (window_of children.now)) }
     ensures grows { tries.old ≤ tries.new }
-    ensures count { tries.new ≤ tries.old + 8 * length i.now }
-    ensures sizes { IfOk result (λ x. tries.new + 8 + 8 * length x.0.now ≤ tries.old + 8 * length i.now) }
-    ensures least { IfOk result (λ x. AddsAtLeast (basic_fields_heads (basic_fields_of x.1)) tries.old tries.new) }
+    ensures count { tries.new ≤ tries.old + (8 * length (window_of children.now) - 8) }
+    ensures sizes { IfOk result (λ x. tries.new + 40 + 8 * length (place_at (window_of children.now) x.0) ≤ tries.old + 8 * length (window_of children.now)) }
+    ensures within { IfOk result (λ x. (x.0 ≤ 7) × (x.0 ≤ count_of children.now)) }
+    ensures least { IfOk result (λ x. AddsAtLeast (basic_fields_heads (basic_fields_of x.1) - x.0) tries.old tries.new) }
 {
-    let (tail, version) = read_version(tries, i)?;
-    let (tail, raw_serial) = read_serial(tries, tail)?;
-    let (tail, signature) = AlgorithmIdentifier::read(alloc, tries, tail)?;
-    let (tail, issuer) = X509Name::read(alloc, tries, tail)?;
-    let (tail, validity) = match Validity::read(alloc, tries, tail) {
-        Ok((tail, validity)) => (tail, validity),
+    let (k, version, version_plain) = read_version(tries, children)?;
+    let (k, raw_serial, serial_plain) = read_serial(children, k)?;
+    let (k, signature, signature_plain) = field_at(alloc, tries, children, k)?;
+    let (k, issuer, issuer_plain) = field_at(alloc, tries, children, k)?;
+    let (k, validity, validity_plain) = match field_at(alloc, tries, children, k) {
+        Ok((k, validity, plain)) => (k, validity, plain),
         Err(e) => return Err(e),
     };
-    let (tail, subject) = X509Name::read(alloc, tries, tail)?;
-    let (tail, subject_pki) = SubjectPublicKeyInfo::read(alloc, tries, tail)?;
+    let (k, subject, subject_plain) = field_at(alloc, tries, children, k)?;
+    let (k, subject_pki, key_plain) = field_at(alloc, tries, children, k)?;
     let fields = BasicFields {
         version,
         raw_serial,
@@ -58,5 +63,8 @@ pub(crate) fn read_basic_fields<'a>(
         subject,
         subject_pki,
     };
-    Ok((tail, fields))
+    let plain = version_plain
+        & (serial_plain
+            & (signature_plain & (issuer_plain & (validity_plain & (subject_plain & key_plain)))));
+    Ok((k, fields, plain))
 }

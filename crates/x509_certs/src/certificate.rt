@@ -5,18 +5,15 @@ ghost use Rattle.x509_der.specs.Hex.{hex_text};
 ghost use Rattle.x509_der.specs.Primitives.{is_constructed};
 ghost use Rattle.x509_der.specs.Reading.{strict};
 ghost use Rattle.x509_fields.specs.declared.error.X509Error.TheVariants.{OutOfMemory};
-ghost use Rattle.x509_certs.specs.Certificates.{Certificate, certificate_of, certificate_heads};
-ghost use Rattle.x509_certs.specs.CertificateGrammar.{certificate};
-ghost use Rattle.x509_certs.specs.CertificateLaws.{certificate_laws};
-ghost use Rattle.x509_certs.specs.Iterating.{extensions_left};
+ghost use Rattle.x509_certs.specs.Certificate.{Certificate, certificate_of, certificate_heads, certificate, certificate_laws};
+ghost use Rattle.x509_extensions.specs.ExtensionList.{extensions_left};
 
 use crate::certificate_parser::X509CertificateParser;
-use crate::extension_iter::ExtensionIter;
 use crate::tbs_certificate::TbsCertificate;
 use crate::validity::Validity;
 use std::alloc::Global;
-use x509_der::{BitString, Err, FromDer, Tries};
-use x509_extensions::X509Extension;
+use x509_der::{BitString, Err, FromDer, Place, Tries};
+use x509_extensions::{ExtensionIter, X509Extension};
 use x509_fields::{AlgorithmIdentifier, X509Error, X509Name, X509Version};
 use x509_keys::SubjectPublicKeyInfo;
 
@@ -130,23 +127,25 @@ impl<'a> FromDer<'a, X509Error> for X509Certificate<'a> {
 
     ghost plan = { certificate true };
 
-    ghost laws = { (certificate_laws true).lawful };
+    ghost laws = { (certificate_laws true).laws.lawful };
+
+    ghost marked = { (certificate_laws true).marked };
 
     ghost form = { strict };
 
-    ghost own = { is_constructed 16 };
+    ghost own_tag = { is_constructed 16 };
 
     ghost heads = { certificate_heads };
 
     ghost takes_memory = { true };
 
-    fn read(
+    fn read_at(
         alloc: Global,
         tries: &mut Tries,
-        i: &'a [u8],
-    ) -> Result<(&'a [u8], Self), Err<X509Error>> {
-        X509CertificateParser::new().read(alloc, tries, i)
+        place: &Place<'a>,
+    ) -> Result<(Self, bool), Err<X509Error>> {
+        X509CertificateParser::new().read_at(alloc, tries, place)
     }
 
-    ghost sober = { (certificate_laws true).sober };
+    ghost never_memory = { (certificate_laws true).laws.never_memory };
 }

@@ -1,24 +1,20 @@
 //! Readers of certificates.
 
-ghost use Rattle.std.specs.Prelude.{◌≡◌, ◌<◌, ◌≤◌, ◌+◌, ◌*◌, ◌++◌, ℕ, List, [], Bool, true, false, IfOk, IfErr, IsErr, map, min, length, take};
-ghost use Rattle.x509_der.specs.declared.error.Err.{Err as Refusal};
-ghost use Rattle.x509_der.specs.Elements.{Elem};
-ghost use Rattle.x509_der.specs.Plan.{got, refusing};
+ghost use Rattle.std.specs.Prelude.{◌≡◌, ◌<◌, ◌≤◌, ◌+◌, ◌-◌, ◌*◌, Bool, true, false, IfOk, IfErr, IsErr, length};
+ghost use Rattle.x509_der.specs.Looks.{behind, is_element, CountedBehind};
+ghost use Rattle.x509_der.specs.Place.{at};
 ghost use Rattle.x509_der.specs.Primitives.{is_constructed, bit_string};
-ghost use Rattle.x509_der.specs.Promises.{Answers, IsFront, Counted, IsForeign, is_excused};
-ghost use Rattle.x509_der.specs.Reading.{Element, Gives, AddsAtLeast, strict, loose};
-ghost use Rattle.x509_fields.specs.declared.error.X509Error.{X509Error as X509Refusal};
+ghost use Rattle.x509_der.specs.Promises.{Answers, TriesBounded, IsForeign, ReadsExactly, is_excused};
+ghost use Rattle.x509_der.specs.Reading.{Gives, AddsAtLeast, strict, loose};
 ghost use Rattle.x509_fields.specs.Errors.{is_x509_memory};
-ghost use Rattle.x509_extensions.specs.Extensions.{value_bytes};
-ghost use Rattle.x509_certs.specs.Certificates.{is_deep, Certificate, certificate_of, certificate_at_depth, certificate_heads, HoldsSignedPart};
-ghost use Rattle.x509_certs.specs.CertificateGrammar.{tbs, signature_value, certificate};
+ghost use Rattle.x509_extensions.specs.Extension.{value_bytes};
+ghost use Rattle.x509_certs.specs.Certificate.{is_deep, is_strict, certificate_of, certificate_heads, CertificateStands, signature_value, certificate, certificate_by};
 
 use crate::certificate::X509Certificate;
-use crate::tbs_fields::read_contents;
 use crate::tbs_parser::TbsCertificateParser;
 use std::alloc::Global;
-use x509_der::{BitString, Err, FromDer, Tries, read_bits};
-use x509_fields::{AlgorithmIdentifier, X509Error, X509Result};
+use x509_der::{BitString, Err, FromDer, Place, Three, Tries};
+use x509_fields::{AlgorithmIdentifier, X509Error, X509Result, sequence_at};
 
 /// Reads certificates, with or without what the values of extensions say.
 ///
@@ -27,10 +23,11 @@ use x509_fields::{AlgorithmIdentifier, X509Error, X509Result};
 #[derive(Clone, Copy, Debug)]
 pub struct X509CertificateParser {
     tbs_parser: TbsCertificateParser,
+    strict: bool,
 }
 
 impl Default for X509CertificateParser {
-    ghost is_default = { λ p. is_deep p ≡ true };
+    ghost is_default = { λ p. (is_deep p ≡ true) × (is_strict p ≡ false) };
 
     fn default() -> X509CertificateParser {
         X509CertificateParser::new()
@@ -40,10 +37,12 @@ impl Default for X509CertificateParser {
 impl X509CertificateParser {
     /// A reader that looks at the values of extensions.
     pub const fn new() -> X509CertificateParser
-        ensures { is_deep result ≡ true }
+        ensures deep { is_deep result ≡ true }
+        ensures loose { is_strict result ≡ false }
     {
         X509CertificateParser {
             tbs_parser: TbsCertificateParser::new(),
+            strict: false,
         }
     }
 
@@ -52,12 +51,27 @@ impl X509CertificateParser {
         self,
         deep_parse_extensions: bool,
     ) -> X509CertificateParser
-        ensures { is_deep result ≡ deep_parse_extensions }
+        ensures deep { is_deep result ≡ deep_parse_extensions }
+        ensures same { is_strict result ≡ is_strict self }
     {
         let tbs_parser = self
             .tbs_parser
             .with_deep_parse_extensions(deep_parse_extensions);
-        X509CertificateParser { tbs_parser }
+        X509CertificateParser {
+            tbs_parser,
+            strict: self.strict,
+        }
+    }
+
+    /// The reader that refuses what doesn't stand plainly, as `Error(Generic)`, or takes it.
+    pub const fn with_strict(self, strict: bool) -> X509CertificateParser
+        ensures strict { is_strict result ≡ strict }
+        ensures same { is_deep result ≡ is_deep self }
+    {
+        X509CertificateParser {
+            tbs_parser: self.tbs_parser,
+            strict,
+        }
     }
 
     /// Reads the certificate at the front of the bytes, and gives what stands behind it.
@@ -66,67 +80,113 @@ impl X509CertificateParser {
     ///
     /// Those of the first field in reading order that can't be read, and `Failure(OutOfMemory)`.
     pub fn parse<'a>(&self, alloc: Global, i: &'a [u8]) -> X509Result<'a, X509Certificate<'a>>
-        ensures accepted { IfOk result (λ x. IsFront (certificate (is_deep self.now)) i.now (certificate_of x.1) x.0.now) }
-        ensures accepts { (a : Certificate) (rest : List ℕ) → IsFront (certificate (is_deep self.now)) i.now a rest → Answers is_x509_memory true (λ x. (x.0.now, certificate_of x.1)) result (got a rest) }
-        ensures refused { IfErr result (λ e. is_excused is_x509_memory true e ≡ false → (certificate (is_deep self.now)).Refuses i.now e) }
-        ensures refuses { (e : Refusal X509Refusal) → (certificate (is_deep self.now)).Refuses i.now e → Answers is_x509_memory true (λ x. (x.0.now, certificate_of x.1)) result (refusing e) }
-        ensures only { (a b : Certificate) (rest other : List ℕ) → IsFront (certificate (is_deep self.now)) i.now a rest → IsFront (certificate (is_deep self.now)) i.now b other → (a ≡ b) × (rest ≡ other) }
-        ensures first { IfOk result (λ x. (e : Element) × Elem loose i.now e x.0.now) }
-        ensures longer { IfOk result (λ x. (more : List ℕ) → IsFront (certificate (is_deep self.now)) (i.now ++ more) (certificate_of x.1) (x.0.now ++ more)) }
-        ensures shorter { IfOk result (λ x. (n : ℕ) → n + length x.0.now < length i.now → (a : Certificate) (rest : List ℕ) → IsFront (certificate (is_deep self.now)) (take n i.now) a rest → ⊥) }
-        ensures window { IfOk result (λ x. i.now ≡ (certificate_of x.1).raw ++ x.0.now) }
-        // The signed part's window is that part, whole, and read again by its own reader it gives an equal value and no rest.
-        ensures signed_part { IfOk result (λ x. HoldsSignedPart (certificate_of x.1)) }
-        ensures reads_back { IfOk result (λ x. IsFront (tbs (is_deep self.now)) (certificate_of x.1).tbs.raw (certificate_of x.1).tbs []) }
-        // At the other depth the same bytes are accepted and the same refused; the values differ in what extensions say.
-        ensures depth { IfOk result (λ x. (deep : Bool) → IsFront (certificate deep) i.now (certificate_at_depth deep (certificate_of x.1)) x.0.now) }
-        ensures refused_at_any_depth { IfErr result (λ e. is_excused is_x509_memory true e ≡ false → (deep : Bool) → (certificate deep).Refuses i.now e) }
+        ensures exact { ReadsExactly is_x509_memory true (λ x. (x.0.now, certificate_of x.1)) (certificate_by (is_deep self.now) (is_strict self.now)) i.now result }
+        ensures stands { IfOk result (λ x. CertificateStands (is_deep self.now) i.now (certificate_of x.1) x.0.now) }
+        // What is refused at one depth is refused at the other.
+        ensures refused_at_any_depth { is_strict self.now ≡ false → IfErr result (λ e. is_excused is_x509_memory true e ≡ false → (deep : Bool) → (certificate deep).Refuses i.now e) }
     {
         self.read(alloc, &mut Tries::new(), i)
     }
 
     /// The same, and counts the headers that it tries: at most eight for each byte; a shallow reader, for each byte
     /// outside the values of extensions.
-    #[tactic(auto, unfolding(crate::specs::CertificateGrammar::certificate))]
     pub fn read<'a>(
         &self,
         alloc: Global,
         tries: &mut Tries,
         i: &'a [u8],
     ) -> X509Result<'a, X509Certificate<'a>>
-        ensures reads { Answers is_x509_memory true (λ x. (x.0.now, certificate_of x.1)) result ((certificate (is_deep self.now)).read i.now) }
-        ensures grows { tries.old ≤ tries.new }
-        ensures count { Counted (λ x. length x.0.now) tries.old tries.new (length i.now) result }
-        ensures foreign { IsForeign strict (is_constructed 16) i.now → IsErr result × (tries.new ≤ tries.old + 1) }
-        ensures some { AddsAtLeast (min (length i.now) 1) tries.old tries.new }
-        ensures least { IfOk result (λ x. AddsAtLeast (certificate_heads (certificate_of x.1)) tries.old tries.new) }
+        ensures reads { Answers is_x509_memory true (λ x. (x.0.now, certificate_of x.1)) result ((certificate_by (is_deep self.now) (is_strict self.now)).read i.now) }
+        ensures stands { IfOk result (λ x. CertificateStands (is_deep self.now) i.now (certificate_of x.1) x.0.now) }
+        ensures refused_at_any_depth { is_strict self.now ≡ false → IfErr result (λ e. is_excused is_x509_memory true e ≡ false → (deep : Bool) → (certificate deep).Refuses i.now e) }
+        ensures tries { TriesBounded strict (is_constructed 16) certificate_heads (λ x. (x.0.now, certificate_of x.1)) i.now tries.old tries.new result }
         ensures shallow { is_deep self.now ≡ false → IfOk result (λ x. tries.new + 8 + 8 * value_bytes ((certificate_of x.1).tbs.extensions) + 8 * length x.0.now ≤ tries.old + 8 * length i.now) }
     {
-        let (rest, contents) = read_contents(tries, i)?;
-        let (tail, tbs_certificate) = match self.tbs_parser.read(alloc, tries, contents) {
-            Ok((tail, tbs)) => (tail, tbs),
+        match self.read_marked(alloc, tries, i) {
+            Ok((rest, certificate, plain)) => {
+                if self.strict && !plain {
+                    return Err(Err::Error(X509Error::Generic));
+                }
+                Ok((rest, certificate))
+            }
+            Err(e) => Err(e),
+        }
+    }
+
+    /// The same, and whether it stands plainly.
+    pub fn read_marked<'a>(
+        &self,
+        alloc: Global,
+        tries: &mut Tries,
+        i: &'a [u8],
+    ) -> Result<(&'a [u8], X509Certificate<'a>, bool), Err<X509Error>>
+        ensures marks { IfOk result (λ x. x.2 ≡ (certificate (is_deep self.now)).marks i.now) }
+        ensures stands { IfOk result (λ x. CertificateStands (is_deep self.now) i.now (certificate_of x.1) x.0.now) }
+        ensures reads { Answers is_x509_memory true (λ x. (x.0.now, certificate_of x.1)) result ((certificate (is_deep self.now)).read i.now) }
+        ensures tries { TriesBounded strict (is_constructed 16) certificate_heads (λ x. (x.0.now, certificate_of x.1)) i.now tries.old tries.new result }
+        ensures shallow { is_deep self.now ≡ false → IfOk result (λ x. tries.new + 8 + 8 * value_bytes ((certificate_of x.1).tbs.extensions) + 8 * length x.0.now ≤ tries.old + 8 * length i.now) }
+    {
+        let place = Place::look(tries, i);
+        match self.read_at(alloc, tries, &place) {
+            Ok((certificate, plain)) => Ok((place.rest(), certificate, plain)),
+            Err(e) => Err(e),
+        }
+    }
+
+    /// Reads the certificate at a place that was looked at.
+    #[tactic(auto, unfolding(crate::specs::Certificate::certificate), using(x509_der::proofs::Marking::marks_of_readers))]
+    pub fn read_at<'a>(
+        &self,
+        alloc: Global,
+        tries: &mut Tries,
+        place: &Place<'a>,
+    ) -> Result<(X509Certificate<'a>, bool), Err<X509Error>>
+        ensures reads { Answers is_x509_memory true (λ x. (behind (at place.now), certificate_of x.0)) result ((certificate (is_deep self.now)).read (at place.now)) }
+        ensures marks { IfOk result (λ x. x.1 ≡ (certificate (is_deep self.now)).marks (at place.now)) }
+        ensures grows { tries.old ≤ tries.new }
+        ensures count { CountedBehind (length (behind (at place.now))) tries.old tries.new (length (at place.now)) result }
+        ensures foreign { IsForeign strict (is_constructed 16) (at place.now) → IsErr result × (tries.new ≤ tries.old) }
+        ensures least { IfOk result (λ x. AddsAtLeast (certificate_heads (certificate_of x.0) - 1) tries.old tries.new) }
+        ensures there { IfOk result (λ _. is_element (at place.now) ≡ true) }
+        ensures shallow { is_deep self.now ≡ false → IfOk result (λ x. tries.new + 9 + 8 * value_bytes ((certificate_of x.0).tbs.extensions) + 8 * length (behind (at place.now)) ≤ tries.old + 8 * length (at place.now)) }
+    {
+        let contents = sequence_at(place)?;
+        let Three {
+            first,
+            second,
+            third,
+        } = Three::cut(tries, contents);
+        let (tbs_certificate, tbs_plain) = match self.tbs_parser.read_at(alloc, tries, &first) {
+            Ok(read) => read,
             Err(e) => return Err(e),
         };
-        let (tail, signature_algorithm) = AlgorithmIdentifier::read(alloc, tries, tail)?;
-        let (_, signature_value) = read_signature_value(tries, tail)?;
+        let (signature_algorithm, algorithm_plain) = AlgorithmIdentifier::read_at(
+            alloc, tries, &second,
+        )?;
+        let signature_value = signature_value_of(&third)?;
+        let bytes = place.bytes();
         let certificate = X509Certificate {
             tbs_certificate,
             signature_algorithm,
             signature_value,
-            raw: &i[..i.len() - rest.len()],
+            raw: &bytes[..bytes.len() - place.rest().len()],
         };
-        Ok((rest, certificate))
+        Ok((
+            certificate,
+            tbs_plain & algorithm_plain & third.rest().is_empty(),
+        ))
     }
 }
 
 // The bits of a signature.
-#[tactic(auto, unfolding(crate::specs::CertificateGrammar::signature_value))]
-fn read_signature_value<'a>(tries: &mut Tries, i: &'a [u8]) -> X509Result<'a, BitString<'a>>
-    ensures reads { Gives (λ x. (x.0.now, bit_string x.1)) result (signature_value.read i.now) }
-    ensures grows { tries.old ≤ tries.new }
-    ensures few_tries { tries.new ≤ tries.old + min (length i.now) 1 }
-    ensures least { IfOk result (λ x. AddsAtLeast 1 tries.old tries.new) }
-    ensures sizes { IfOk result (λ x. length x.0.now + 2 ≤ length i.now) }
+#[tactic(auto, unfolding(crate::specs::Certificate::signature_value), using(x509_der::proofs::Marking::marks_of_readers))]
+fn signature_value_of<'a>(place: &Place<'a>) -> Result<BitString<'a>, Err<X509Error>>
+    ensures reads { Gives (λ x. (behind (at place.now), bit_string x)) result (signature_value.read (at place.now)) }
+    ensures marks { signature_value.marks (at place.now) ≡ true }
+    ensures there { IfOk result (λ _. is_element (at place.now) ≡ true) }
+    ensures sizes { IfOk result (λ _. length (behind (at place.now)) + 2 ≤ length (at place.now)) }
 {
-    read_bits(tries, i).map_err(|_| Err::Error(X509Error::InvalidSignatureValue))
+    place
+        .bits()
+        .map_err(|_| Err::Error(X509Error::InvalidSignatureValue))
 }

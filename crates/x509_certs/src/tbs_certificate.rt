@@ -5,18 +5,15 @@ ghost use Rattle.x509_der.specs.Hex.{hex_text};
 ghost use Rattle.x509_der.specs.Primitives.{is_constructed};
 ghost use Rattle.x509_der.specs.Reading.{strict};
 ghost use Rattle.x509_fields.specs.declared.error.X509Error.TheVariants.{OutOfMemory};
-ghost use Rattle.x509_certs.specs.Certificates.{Tbs, tbs_of, tbs_heads};
-ghost use Rattle.x509_certs.specs.CertificateGrammar.{tbs};
-ghost use Rattle.x509_certs.specs.CertificateLaws.{tbs_laws};
-ghost use Rattle.x509_certs.specs.Iterating.{extensions_left};
+ghost use Rattle.x509_certs.specs.TbsCertificate.{Tbs, tbs_of, tbs_heads, tbs, tbs_laws};
+ghost use Rattle.x509_extensions.specs.ExtensionList.{extensions_left};
 
-use crate::extension_iter::ExtensionIter;
 use crate::tbs_parser::TbsCertificateParser;
 use crate::unique_identifier::UniqueIdentifier;
 use crate::validity::Validity;
 use std::alloc::Global;
-use x509_der::{Err, FromDer, Sequence, Tries, UnsignedBytes};
-use x509_extensions::X509Extension;
+use x509_der::{Err, FromDer, Place, Sequence, Tries, UnsignedBytes};
+use x509_extensions::{ExtensionIter, X509Extension};
 use x509_fields::{AlgorithmIdentifier, X509Error, X509Name, X509Version, format_serial};
 use x509_keys::SubjectPublicKeyInfo;
 
@@ -144,23 +141,25 @@ impl<'a> FromDer<'a, X509Error> for TbsCertificate<'a> {
 
     ghost plan = { tbs true };
 
-    ghost laws = { (tbs_laws true).lawful };
+    ghost laws = { (tbs_laws true).laws.lawful };
+
+    ghost marked = { (tbs_laws true).marked };
 
     ghost form = { strict };
 
-    ghost own = { is_constructed 16 };
+    ghost own_tag = { is_constructed 16 };
 
     ghost heads = { tbs_heads };
 
     ghost takes_memory = { true };
 
-    fn read(
+    fn read_at(
         alloc: Global,
         tries: &mut Tries,
-        i: &'a [u8],
-    ) -> Result<(&'a [u8], Self), Err<X509Error>> {
-        TbsCertificateParser::new().read(alloc, tries, i)
+        place: &Place<'a>,
+    ) -> Result<(Self, bool), Err<X509Error>> {
+        TbsCertificateParser::new().read_at(alloc, tries, place)
     }
 
-    ghost sober = { (tbs_laws true).sober };
+    ghost never_memory = { (tbs_laws true).laws.never_memory };
 }

@@ -1,25 +1,22 @@
 //! Readers of the signed part.
 
-ghost use Rattle.std.specs.Prelude.{◌≡◌, ◌<◌, ◌≤◌, ◌+◌, ◌*◌, ◌++◌, ℕ, List, [], Bool, true, false, IfOk, IfErr, IsErr, map, min, length, take};
-ghost use Rattle.x509_der.specs.declared.error.Err.{Err as Refusal};
-ghost use Rattle.x509_der.specs.Elements.{Elem};
-ghost use Rattle.x509_der.specs.Plan.{got, refusing};
+ghost use Rattle.std.specs.Prelude.{◌≡◌, ◌<◌, ◌≤◌, ◌+◌, ◌-◌, ◌*◌, Bool, true, false, IfOk, IfErr, IsErr, length};
+ghost use Rattle.x509_der.specs.Looks.{behind, is_element, CountedBehind};
+ghost use Rattle.x509_der.specs.Place.{at};
 ghost use Rattle.x509_der.specs.Primitives.{is_constructed};
-ghost use Rattle.x509_der.specs.Promises.{Answers, IsFront, Counted, IsForeign, is_excused};
-ghost use Rattle.x509_der.specs.Reading.{Element, AddsAtLeast, strict, loose};
-ghost use Rattle.x509_fields.specs.declared.error.X509Error.{X509Error as X509Refusal};
+ghost use Rattle.x509_der.specs.Promises.{Answers, TriesBounded, IsForeign, ReadsExactly, is_excused};
+ghost use Rattle.x509_der.specs.Reading.{AddsAtLeast, strict, loose};
 ghost use Rattle.x509_fields.specs.Errors.{is_x509_memory};
-ghost use Rattle.x509_extensions.specs.Extensions.{value_bytes};
-ghost use Rattle.x509_certs.specs.Certificates.{looks_at_values, Tbs, tbs_of, tbs_at_depth, tbs_heads};
-ghost use Rattle.x509_certs.specs.CertificateGrammar.{tbs};
+ghost use Rattle.x509_extensions.specs.Extension.{value_bytes};
+ghost use Rattle.x509_certs.specs.TbsCertificate.{SignedPartStands, looks_at_values, takes_plain_alone, tbs_of, tbs_heads, tbs, tbs_by};
 
 use crate::basic_fields::read_basic_fields;
 use crate::tbs_certificate::TbsCertificate;
-use crate::tbs_fields::{read_contents, read_issuer_uid, read_subject_uid};
+use crate::unique_identifier::{read_issuer_uid, read_subject_uid};
 use std::alloc::Global;
-use x509_der::{Tries, UnsignedBytes};
+use x509_der::{Elements, Err, Place, Tries, UnsignedBytes};
 use x509_extensions::X509ExtensionParser;
-use x509_fields::{X509Result, X509Version};
+use x509_fields::{X509Error, X509Result, X509Version, sequence_at};
 
 /// Reads the signed parts of certificates, with or without what the values of extensions say.
 ///
@@ -28,10 +25,11 @@ use x509_fields::{X509Result, X509Version};
 #[derive(Clone, Copy, Debug)]
 pub struct TbsCertificateParser {
     extension_parser: X509ExtensionParser,
+    strict: bool,
 }
 
 impl Default for TbsCertificateParser {
-    ghost is_default = { λ p. looks_at_values p ≡ true };
+    ghost is_default = { λ p. (looks_at_values p ≡ true) × (takes_plain_alone p ≡ false) };
 
     fn default() -> TbsCertificateParser {
         TbsCertificateParser::new()
@@ -41,10 +39,12 @@ impl Default for TbsCertificateParser {
 impl TbsCertificateParser {
     /// A reader that looks at the values of extensions.
     pub const fn new() -> TbsCertificateParser
-        ensures { looks_at_values result ≡ true }
+        ensures deep { looks_at_values result ≡ true }
+        ensures loose { takes_plain_alone result ≡ false }
     {
         TbsCertificateParser {
             extension_parser: X509ExtensionParser::new(),
+            strict: false,
         }
     }
 
@@ -53,12 +53,27 @@ impl TbsCertificateParser {
         self,
         deep_parse_extensions: bool,
     ) -> TbsCertificateParser
-        ensures { looks_at_values result ≡ deep_parse_extensions }
+        ensures deep { looks_at_values result ≡ deep_parse_extensions }
+        ensures same { takes_plain_alone result ≡ takes_plain_alone self }
     {
         let extension_parser = self
             .extension_parser
             .with_deep_parse_extensions(deep_parse_extensions);
-        TbsCertificateParser { extension_parser }
+        TbsCertificateParser {
+            extension_parser,
+            strict: self.strict,
+        }
+    }
+
+    /// The reader that refuses what doesn't stand plainly, as `Error(Generic)`, or takes it.
+    pub const fn with_strict(self, strict: bool) -> TbsCertificateParser
+        ensures strict { takes_plain_alone result ≡ strict }
+        ensures same { looks_at_values result ≡ looks_at_values self }
+    {
+        TbsCertificateParser {
+            extension_parser: self.extension_parser,
+            strict,
+        }
     }
 
     /// Reads the signed part at the front of the bytes, and gives what stands behind it.
@@ -67,47 +82,88 @@ impl TbsCertificateParser {
     ///
     /// Those of the first field in reading order that can't be read, and `Failure(OutOfMemory)`.
     pub fn parse<'a>(&self, alloc: Global, i: &'a [u8]) -> X509Result<'a, TbsCertificate<'a>>
-        ensures accepted { IfOk result (λ x. IsFront (tbs (looks_at_values self.now)) i.now (tbs_of x.1) x.0.now) }
-        ensures accepts { (a : Tbs) (rest : List ℕ) → IsFront (tbs (looks_at_values self.now)) i.now a rest → Answers is_x509_memory true (λ x. (x.0.now, tbs_of x.1)) result (got a rest) }
-        ensures refused { IfErr result (λ e. is_excused is_x509_memory true e ≡ false → (tbs (looks_at_values self.now)).Refuses i.now e) }
-        ensures refuses { (e : Refusal X509Refusal) → (tbs (looks_at_values self.now)).Refuses i.now e → Answers is_x509_memory true (λ x. (x.0.now, tbs_of x.1)) result (refusing e) }
-        ensures only { (a b : Tbs) (rest other : List ℕ) → IsFront (tbs (looks_at_values self.now)) i.now a rest → IsFront (tbs (looks_at_values self.now)) i.now b other → (a ≡ b) × (rest ≡ other) }
-        ensures first { IfOk result (λ x. (e : Element) × Elem loose i.now e x.0.now) }
-        ensures longer { IfOk result (λ x. (more : List ℕ) → IsFront (tbs (looks_at_values self.now)) (i.now ++ more) (tbs_of x.1) (x.0.now ++ more)) }
-        ensures shorter { IfOk result (λ x. (n : ℕ) → n + length x.0.now < length i.now → (a : Tbs) (rest : List ℕ) → IsFront (tbs (looks_at_values self.now)) (take n i.now) a rest → ⊥) }
-        ensures window { IfOk result (λ x. i.now ≡ (tbs_of x.1).raw ++ x.0.now) }
-        // At the other depth the same bytes are accepted and the same refused; the values differ in what extensions say.
-        ensures depth { IfOk result (λ x. (deep : Bool) → IsFront (tbs deep) i.now (tbs_at_depth deep (tbs_of x.1)) x.0.now) }
-        ensures refused_at_any_depth { IfErr result (λ e. is_excused is_x509_memory true e ≡ false → (deep : Bool) → (tbs deep).Refuses i.now e) }
+        ensures exact { ReadsExactly is_x509_memory true (λ x. (x.0.now, tbs_of x.1)) (tbs_by (looks_at_values self.now) (takes_plain_alone self.now)) i.now result }
+        ensures stands { IfOk result (λ x. SignedPartStands (looks_at_values self.now) i.now (tbs_of x.1) x.0.now) }
+        // What is refused at one depth is refused at the other.
+        ensures refused_at_any_depth { takes_plain_alone self.now ≡ false → IfErr result (λ e. is_excused is_x509_memory true e ≡ false → (deep : Bool) → (tbs deep).Refuses i.now e) }
     {
         self.read(alloc, &mut Tries::new(), i)
     }
 
     /// The same, and counts the headers that it tries: at most eight for each byte; a shallow reader, for each byte
     /// outside the values of extensions.
-    #[tactic(auto, unfolding(crate::specs::CertificateGrammar::tbs))]
     pub fn read<'a>(
         &self,
         alloc: Global,
         tries: &mut Tries,
         i: &'a [u8],
     ) -> X509Result<'a, TbsCertificate<'a>>
-        ensures reads { Answers is_x509_memory true (λ x. (x.0.now, tbs_of x.1)) result ((tbs (looks_at_values self.now)).read i.now) }
-        ensures grows { tries.old ≤ tries.new }
-        ensures count { Counted (λ x. length x.0.now) tries.old tries.new (length i.now) result }
-        ensures foreign { IsForeign strict (is_constructed 16) i.now → IsErr result × (tries.new ≤ tries.old + 1) }
-        ensures some { AddsAtLeast (min (length i.now) 1) tries.old tries.new }
-        ensures least { IfOk result (λ x. AddsAtLeast (tbs_heads (tbs_of x.1)) tries.old tries.new) }
+        ensures reads { Answers is_x509_memory true (λ x. (x.0.now, tbs_of x.1)) result ((tbs_by (looks_at_values self.now) (takes_plain_alone self.now)).read i.now) }
+        ensures stands { IfOk result (λ x. SignedPartStands (looks_at_values self.now) i.now (tbs_of x.1) x.0.now) }
+        ensures refused_at_any_depth { takes_plain_alone self.now ≡ false → IfErr result (λ e. is_excused is_x509_memory true e ≡ false → (deep : Bool) → (tbs deep).Refuses i.now e) }
+        ensures tries { TriesBounded strict (is_constructed 16) tbs_heads (λ x. (x.0.now, tbs_of x.1)) i.now tries.old tries.new result }
         ensures shallow { looks_at_values self.now ≡ false → IfOk result (λ x. tries.new + 8 + 8 * value_bytes ((tbs_of x.1).extensions) + 8 * length x.0.now ≤ tries.old + 8 * length i.now) }
     {
-        let (rest, contents) = read_contents(tries, i)?;
-        let (tail, basic) = match read_basic_fields(alloc, tries, contents) {
-            Ok((tail, basic)) => (tail, basic),
+        match self.read_marked(alloc, tries, i) {
+            Ok((rest, tbs, plain)) => {
+                if self.strict && !plain {
+                    return Err(Err::Error(X509Error::Generic));
+                }
+                Ok((rest, tbs))
+            }
+            Err(e) => Err(e),
+        }
+    }
+
+    /// The same, and whether it stands plainly.
+    pub fn read_marked<'a>(
+        &self,
+        alloc: Global,
+        tries: &mut Tries,
+        i: &'a [u8],
+    ) -> Result<(&'a [u8], TbsCertificate<'a>, bool), Err<X509Error>>
+        ensures marks { IfOk result (λ x. x.2 ≡ (tbs (looks_at_values self.now)).marks i.now) }
+        ensures stands { IfOk result (λ x. SignedPartStands (looks_at_values self.now) i.now (tbs_of x.1) x.0.now) }
+        ensures reads { Answers is_x509_memory true (λ x. (x.0.now, tbs_of x.1)) result ((tbs (looks_at_values self.now)).read i.now) }
+        ensures tries { TriesBounded strict (is_constructed 16) tbs_heads (λ x. (x.0.now, tbs_of x.1)) i.now tries.old tries.new result }
+        ensures shallow { looks_at_values self.now ≡ false → IfOk result (λ x. tries.new + 8 + 8 * value_bytes ((tbs_of x.1).extensions) + 8 * length x.0.now ≤ tries.old + 8 * length i.now) }
+    {
+        let place = Place::look(tries, i);
+        match self.read_at(alloc, tries, &place) {
+            Ok((tbs, plain)) => Ok((place.rest(), tbs, plain)),
+            Err(e) => Err(e),
+        }
+    }
+
+    /// Reads the signed part at a place that was looked at.
+    #[tactic(auto, unfolding(crate::specs::TbsCertificate::tbs), using(x509_der::proofs::Marking::marks_of_readers, crate::specs::UniqueIdentifier::issuer_uid_plain, crate::specs::UniqueIdentifier::subject_uid_plain))]
+    pub fn read_at<'a>(
+        &self,
+        alloc: Global,
+        tries: &mut Tries,
+        place: &Place<'a>,
+    ) -> Result<(TbsCertificate<'a>, bool), Err<X509Error>>
+        ensures reads { Answers is_x509_memory true (λ x. (behind (at place.now), tbs_of x.0)) result ((tbs (looks_at_values self.now)).read (at place.now)) }
+        ensures marks { IfOk result (λ x. x.1 ≡ (tbs (looks_at_values self.now)).marks (at place.now)) }
+        ensures grows { tries.old ≤ tries.new }
+        ensures count { CountedBehind (length (behind (at place.now))) tries.old tries.new (length (at place.now)) result }
+        ensures foreign { IsForeign strict (is_constructed 16) (at place.now) → IsErr result × (tries.new ≤ tries.old) }
+        ensures least { IfOk result (λ x. AddsAtLeast (tbs_heads (tbs_of x.0) - 1) tries.old tries.new) }
+        ensures there { IfOk result (λ _. is_element (at place.now) ≡ true) }
+        ensures shallow { looks_at_values self.now ≡ false → IfOk result (λ x. tries.new + 9 + 8 * value_bytes ((tbs_of x.0).extensions) + 8 * length (behind (at place.now)) ≤ tries.old + 8 * length (at place.now)) }
+    {
+        let contents = sequence_at(place)?;
+        let children: Elements<'_, 10> = Elements::cut(tries, contents);
+        let (k, basic, basic_plain) = match read_basic_fields(alloc, tries, &children) {
+            Ok((k, basic, plain)) => (k, basic, plain),
             Err(e) => return Err(e),
         };
-        let (tail, issuer_uid) = read_issuer_uid(tries, tail)?;
-        let (tail, subject_uid) = read_subject_uid(tries, tail)?;
-        let extensions = self.extension_parser.read_wrapped(alloc, tries, 3, tail)?;
+        let (k, issuer_uid) = read_issuer_uid(&children, k)?;
+        let (k, subject_uid) = read_subject_uid(&children, k)?;
+        let (extensions, extensions_plain) = self
+            .extension_parser
+            .read_wrapped_at(alloc, tries, 3, &children.at(k))?;
+        let bytes = place.bytes();
         let tbs = TbsCertificate {
             version: basic.version.unwrap_or(X509Version::V1),
             serial: UnsignedBytes::new(basic.raw_serial),
@@ -119,9 +175,9 @@ impl TbsCertificateParser {
             issuer_uid,
             subject_uid,
             extensions,
-            raw: &i[..i.len() - rest.len()],
+            raw: &bytes[..bytes.len() - place.rest().len()],
             raw_serial: basic.raw_serial,
         };
-        Ok((rest, tbs))
+        Ok((tbs, basic_plain & extensions_plain))
     }
 }

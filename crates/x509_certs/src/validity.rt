@@ -4,14 +4,11 @@ ghost use Rattle.std.specs.Prelude.{IsTrue, ◌↔◌, ◌≤ℤ◌, false};
 ghost use Rattle.x509_der.specs.Primitives.{is_constructed};
 ghost use Rattle.x509_der.specs.Reading.{strict};
 ghost use Rattle.x509_fields.specs.Times.{instant_of};
-ghost use Rattle.x509_certs.specs.Certificates.{Period, period_of, period_heads};
-ghost use Rattle.x509_certs.specs.CertificateGrammar.{validity};
-ghost use Rattle.x509_certs.specs.CertificateLaws.{validity_laws};
+ghost use Rattle.x509_certs.specs.Validity.{Period, period_of, period_heads, validity, validity_laws};
 
-use crate::tbs_fields::read_contents;
 use std::alloc::Global;
-use x509_der::{Err, FromDer, Tries};
-use x509_fields::{ASN1Time, X509Error};
+use x509_der::{Err, FromDer, Place, Tries, Two};
+use x509_fields::{ASN1Time, X509Error, sequence_at};
 
 /// The first and the last moment at which a certificate is valid (RFC 5280, section 4.1.2.5).
 ///
@@ -47,39 +44,37 @@ impl<'a> FromDer<'a, X509Error> for Validity {
 
     ghost plan = { validity };
 
-    ghost laws = { validity_laws.lawful };
+    ghost laws = { validity_laws.laws.lawful };
+
+    ghost marked = { validity_laws.marked };
 
     ghost form = { strict };
 
-    ghost own = { is_constructed 16 };
+    ghost own_tag = { is_constructed 16 };
 
     ghost heads = { period_heads };
 
     ghost takes_memory = { false };
 
-    #[tactic(auto, unfolding(crate::specs::CertificateGrammar::validity))]
-    fn read(
+    #[tactic(auto, unfolding(crate::specs::Validity::validity), using(x509_der::proofs::Marking::marks_of_readers))]
+    fn read_at(
         alloc: Global,
         tries: &mut Tries,
-        i: &'a [u8],
-    ) -> Result<(&'a [u8], Self), Err<X509Error>> {
-        let (rest, contents) = read_contents(tries, i)?;
-        let (tail, not_before) = match ASN1Time::read(alloc, tries, contents) {
-            Ok(read) => read,
-            Err(e) => return Err(e),
-        };
-        let (_, not_after) = match ASN1Time::read(alloc, tries, tail) {
-            Ok(read) => read,
-            Err(e) => return Err(e),
+        place: &Place<'a>,
+    ) -> Result<(Self, bool), Err<X509Error>> {
+        let contents = sequence_at(place)?;
+        let Two { first, second } = Two::cut(tries, contents);
+        let (not_before, before_plain) = ASN1Time::read_at(alloc, tries, &first)?;
+        let (not_after, after_plain) = ASN1Time::read_at(alloc, tries, &second)?;
+        let validity = Validity {
+            not_before,
+            not_after,
         };
         Ok((
-            rest,
-            Validity {
-                not_before,
-                not_after,
-            },
+            validity,
+            before_plain & after_plain & second.rest().is_empty(),
         ))
     }
 
-    ghost sober = { validity_laws.sober };
+    ghost never_memory = { validity_laws.laws.never_memory };
 }

@@ -14,10 +14,14 @@ pub mod Runs
 pub mod Leaves
 pub mod RunLoop
 pub mod Sentences
-pub mod Sobriety
+pub mod WantOfMemory
 pub mod Lawful
 pub mod Words
-pub mod Apart
-pub mod Chains
+pub mod Marked
+pub mod Marking
+pub mod MarkLoop
 pub mod Members
+pub mod Looks
+pub mod Cutting
+pub mod Octets
 pub mod Rulesets

@@ -1,23 +1,26 @@
 //! The trait of what is read from one element.
 
-ghost use Rattle.std.specs.Prelude.{◌≡◌, ◌<◌, ◌≤◌, ◌+◌, ◌++◌, Bool, false, List, ℕ, IfOk, IfErr, IsErr, min, length, take};
+ghost use Rattle.std.specs.Prelude.{◌≡◌, ◌≤◌, ◌-◌, ⊤, Bool, true, List, ℕ, IfOk, IsErr, length};
 ghost use Rattle.x509_der.specs.declared.error.Err.{Err as Refusal};
 ghost use Rattle.x509_der.specs.declared.header.Header.{Header};
-ghost use Rattle.x509_der.specs.declared.reading.Form.{Form};
-ghost use Rattle.x509_der.specs.Elements.{Elem};
-ghost use Rattle.x509_der.specs.Plan.{Plan, got, refusing};
-ghost use Rattle.x509_der.specs.Laws.{IsLawful, Sober};
-ghost use Rattle.x509_der.specs.Reading.{Element, AddsAtLeast, loose};
-ghost use Rattle.x509_der.specs.Promises.{Answers, IsFront, Counted, IsForeign, is_excused};
+ghost use Rattle.x509_der.specs.declared.look.Form.{Form};
+ghost use Rattle.x509_der.specs.Looks.{behind, is_element, CountedBehind};
+ghost use Rattle.x509_der.specs.Place.{at};
+ghost use Rattle.x509_der.specs.Plan.{Plan};
+ghost use Rattle.x509_der.specs.Laws.{IsLawful, IsMarked, NeverMemory};
+ghost use Rattle.x509_der.specs.Reading.{AddsAtLeast, tried};
+ghost use Rattle.x509_der.specs.Promises.{Answers, TriesBounded, IsForeign, ReadsExactly};
 
 use crate::error::{Err, ReadError};
+use crate::place::Place;
 use crate::tries::Tries;
 use std::alloc::Global;
 
 /// What can be read from the first element of some bytes.
 ///
-/// A type says what its values are apart from memory (`Value`, `view`) and gives its grammar (`plan`) with its laws; its
-/// `read` then answers what the plan reads, and [`FromDer::from_der`] follows for every type at once.
+/// A type says what its values are apart from memory (`Value`, `view`) and gives its grammar (`plan`) with its laws and its
+/// marks; its `read_at` then answers what the plan reads, and [`FromDer::read_marked`], [`FromDer::read`] and
+/// [`FromDer::from_der`] follow for every type at once.
 pub trait FromDer<'a, E: ReadError>: Sized {
     /// What a value is, without where it lies in memory.
     ghost Value: { Type 0 };
@@ -30,11 +33,14 @@ pub trait FromDer<'a, E: ReadError>: Sized {
     /// These three say one thing, of the first element alone.
     ghost laws: { IsLawful plan };
 
+    /// The mark of what is read tells the sentences that stand plainly from the others.
+    ghost marked: { IsMarked plan };
+
     /// The form of the length in the headers that the type takes.
     ghost form: { Form };
 
     /// The headers of the type's own class and number.
-    ghost own: { Header → Bool };
+    ghost own_tag: { Header → Bool };
 
     /// How many headers a value's element holds: its own, and those of its fields and members.
     ghost heads: { Value → ℕ };
@@ -42,33 +48,62 @@ pub trait FromDer<'a, E: ReadError>: Sized {
     /// Whether a reading may find no memory.
     ghost takes_memory: { Bool };
 
-    /// Reads the element at the front, and counts the headers that it tries: at most eight for each byte.
-    fn read(alloc: Global, tries: &mut Tries, i: &'a [u8]) -> Result<(&'a [u8], Self), Err<E>>
-        ensures reads { Answers E.is_memory takes_memory (λ x. (x.0.now, view x.1)) result (plan.read i.now) }
+    /// A sharper bound on the tries of these bytes beyond the look at them, for the types that have one: the counts before and after.
+    ghost tight: { List ℕ → ℕ → ℕ → Type 0 } = { λ _ _ _. ⊤ };
+
+    /// Reads the element at a place that was looked at, tells whether it stands plainly, and counts the headers that it tries
+    /// beyond that look.
+    fn read_at(alloc: Global, tries: &mut Tries, place: &Place<'a>) -> Result<(Self, bool), Err<E>>
+        ensures reads { Answers E.is_memory takes_memory (λ x. (behind (at place.now), view x.0)) result (plan.read (at place.now)) }
+        // Whether none of the loose rules was used.
+        ensures marks { IfOk result (λ x. x.1 ≡ plan.marks (at place.now)) }
         ensures grows { tries.old ≤ tries.new }
-        // Eight tries for each byte, less what the containers around it need.
-        ensures count { Counted (λ x. length x.0.now) tries.old tries.new (length i.now) result }
-        // An element of another tag is looked at once.
-        ensures foreign { IsForeign form own i.now → IsErr result × (tries.new ≤ tries.old + 1) }
-        // A byte is tried, and each header of a value.
-        ensures some { AddsAtLeast (min (length i.now) 1) tries.old tries.new }
-        ensures least { IfOk result (λ x. AddsAtLeast (heads (view x.1)) tries.old tries.new) };
+        // Eight tries for each byte, less what the containers around it need, and less the look at its header.
+        ensures count { CountedBehind (length (behind (at place.now))) tries.old tries.new (length (at place.now)) result }
+        // An element of another tag is tried no more.
+        ensures foreign { IsForeign form own_tag (at place.now) → IsErr result × (tries.new ≤ tries.old) }
+        // Each header of a value but its own.
+        ensures least { IfOk result (λ x. AddsAtLeast (heads (view x.0) - 1) tries.old tries.new) }
+        ensures there { IfOk result (λ _. is_element (at place.now) ≡ true) }
+        ensures tight { tight (at place.now) tries.old tries.new };
 
     /// No refusal of the grammar is want of memory, so that is answered only where memory was refused.
-    ghost sober: { Sober E.is_memory plan };
+    ghost never_memory: { NeverMemory E.is_memory plan };
+
+    /// Reads the element at the front, tells whether it stands plainly, and counts the headers that it tries: at most eight
+    /// for each byte.
+    #[inline(always)]
+    final fn read_marked(
+        alloc: Global,
+        tries: &mut Tries,
+        i: &'a [u8],
+    ) -> Result<(&'a [u8], Self, bool), Err<E>>
+        ensures reads { Answers E.is_memory takes_memory (λ x. (x.0.now, view x.1)) result (plan.read i.now) }
+        ensures marks { IfOk result (λ x. x.2 ≡ plan.marks i.now) }
+        ensures tries { TriesBounded form own_tag heads (λ x. (x.0.now, view x.1)) i.now tries.old tries.new result }
+        ensures tight { tight i.now (tried tries.old i.now) tries.new }
+    {
+        let place = Place::look(tries, i);
+        let (value, plain) = Self::read_at(alloc, tries, &place)?;
+        Ok((place.rest(), value, plain))
+    }
+
+    /// The same without its mark.
+    #[inline(always)]
+    final fn read(alloc: Global, tries: &mut Tries, i: &'a [u8]) -> Result<(&'a [u8], Self), Err<E>>
+        ensures reads { Answers E.is_memory takes_memory (λ x. (x.0.now, view x.1)) result (plan.read i.now) }
+        ensures tries { TriesBounded form own_tag heads (λ x. (x.0.now, view x.1)) i.now tries.old tries.new result }
+        ensures tight { tight i.now (tried tries.old i.now) tries.new }
+    {
+        match Self::read_marked(alloc, tries, i) {
+            Ok((rest, value, _)) => Ok((rest, value)),
+            Err(e) => Err(e),
+        }
+    }
 
     /// Reads the element at the front: exactly where a front of the bytes is in the grammar, with its value and the rest.
     final fn from_der(alloc: Global, i: &'a [u8]) -> Result<(&'a [u8], Self), Err<E>>
-        ensures accepted { IfOk result (λ x. IsFront plan i.now (view x.1) x.0.now) }
-        ensures accepts { (a : Value) (rest : List ℕ) → IsFront plan i.now a rest → Answers E.is_memory takes_memory (λ x. (x.0.now, view x.1)) result (got a rest) }
-        ensures refused { IfErr result (λ e. is_excused E.is_memory takes_memory e ≡ false → plan.Refuses i.now e) }
-        ensures refuses { (e : Refusal E) → plan.Refuses i.now e → Answers E.is_memory takes_memory (λ x. (x.0.now, view x.1)) result (refusing e) }
-        // At most one front is in the grammar, with one value, and it is the first element.
-        ensures only { (a b : Value) (rest other : List ℕ) → IsFront plan i.now a rest → IsFront plan i.now b other → (a ≡ b) × (rest ≡ other) }
-        ensures first { IfOk result (λ x. (e : Element) × Elem loose i.now e x.0.now) }
-        // Bytes behind it only lengthen the rest, and no shorter front of it is in the grammar.
-        ensures longer { IfOk result (λ x. (more : List ℕ) → IsFront plan (i.now ++ more) (view x.1) (x.0.now ++ more)) }
-        ensures shorter { IfOk result (λ x. (n : ℕ) → n + length x.0.now < length i.now → (a : Value) (rest : List ℕ) → IsFront plan (take n i.now) a rest → ⊥) }
+        ensures { ReadsExactly E.is_memory takes_memory (λ x. (x.0.now, view x.1)) plan i.now result }
     {
         let mut tries = Tries::new();
         Self::read(alloc, &mut tries, i)

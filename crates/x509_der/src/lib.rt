@@ -3,37 +3,44 @@
 
 mod any;
 mod bit_string;
+mod child;
+mod children;
 mod error;
 mod from_der;
+mod front;
 mod header;
 mod hex;
 mod integer;
 mod laws;
 mod list;
+mod look;
 mod oid;
+mod place;
 mod primitive;
-mod reading;
 mod run;
 mod tries;
 mod unsigned;
 
 pub use any::Any;
 pub use bit_string::BitString;
+pub use child::{Child, Stop};
+pub use children::{Children, Elements, Three, Two};
 pub use error::{BerError, Err, ErrorKind, ReadError};
 pub use from_der::FromDer;
+pub use front::{
+    read_any, read_any_loose, read_bits, read_bool, read_bool_loose, read_enumerated,
+    read_explicit, read_header, read_header_loose, read_ia5, read_implicit, read_implicit_bits,
+    read_integer, read_octets, read_oid, read_sequence, read_set, read_u32, read_unsigned,
+    read_utf8,
+};
 pub use header::{Class, Header, Tag};
 pub use hex::HexPairs;
 pub use integer::Integer;
-pub use laws::leaf_laws;
+pub use laws::{cut_laws, leaf_laws, oid_laws};
 pub use list::Sequence;
 pub use oid::Oid;
-pub use primitive::{
-    read_bits, read_bool, read_bool_loose, read_enumerated, read_explicit, read_ia5, read_implicit,
-    read_implicit_bits, read_integer, read_octets, read_oid, read_sequence, read_set, read_u32,
-    read_unsigned, read_utf8,
-};
-pub use reading::{read_any, read_any_loose, read_header, read_header_loose};
-pub use run::{read_named, read_run, read_run1, read_soft, read_to_end};
+pub use place::Place;
+pub use run::{field_at, read_run, read_run1, read_to_end, soft_at};
 pub use tries::Tries;
 pub use unsigned::UnsignedBytes;
 

@@ -1,17 +1,14 @@
 //! One extension.
 
 ghost use Rattle.std.specs.Prelude.{◌≡◌, true};
-ghost use Rattle.x509_der.specs.Oid.{oid_bytes};
 ghost use Rattle.x509_der.specs.Primitives.{is_constructed};
 ghost use Rattle.x509_der.specs.Reading.{strict};
-ghost use Rattle.x509_extensions.specs.Extensions.{Extension, extension_of, extension_heads, parsed_of};
-ghost use Rattle.x509_extensions.specs.ExtensionGrammar.{extension};
-ghost use Rattle.x509_extensions.specs.ExtensionLaws.{extension_laws};
+ghost use Rattle.x509_extensions.specs.Extension.{Extension, extension_of, extension_heads, extension, extension_laws};
 
 use crate::parsed::ParsedExtension;
 use crate::parser::X509ExtensionParser;
 use std::alloc::Global;
-use x509_der::{Err, FromDer, Oid, Tries};
+use x509_der::{Err, FromDer, Oid, Place, Tries};
 use x509_fields::X509Error;
 
 /// An extension of a certificate, of a list or of an entry of one (RFC 5280, section 4.2).
@@ -72,23 +69,25 @@ impl<'a> FromDer<'a, X509Error> for X509Extension<'a> {
 
     ghost plan = { extension true };
 
-    ghost laws = { (extension_laws true).lawful };
+    ghost laws = { (extension_laws true).laws.lawful };
+
+    ghost marked = { (extension_laws true).marked };
 
     ghost form = { strict };
 
-    ghost own = { is_constructed 16 };
+    ghost own_tag = { is_constructed 16 };
 
     ghost heads = { extension_heads };
 
     ghost takes_memory = { true };
 
-    fn read(
+    fn read_at(
         alloc: Global,
         tries: &mut Tries,
-        i: &'a [u8],
-    ) -> Result<(&'a [u8], Self), Err<X509Error>> {
-        X509ExtensionParser::new().read(alloc, tries, i)
+        place: &Place<'a>,
+    ) -> Result<(Self, bool), Err<X509Error>> {
+        X509ExtensionParser::new().read_at(alloc, tries, place)
     }
 
-    ghost sober = { (extension_laws true).sober };
+    ghost never_memory = { (extension_laws true).laws.never_memory };
 }

@@ -1,27 +1,20 @@
 //! Readers of extensions, which look at the values or leave them alone.
 
-ghost use Rattle.std.specs.Prelude.{◌≡◌, ◌<◌, ◌≤◌, ◌+◌, ◌*◌, ◌++◌, ℕ, List, [], Bool, true, false, IfOk, IfErr, IsErr, map, min, length, take, sum_by};
-ghost use Rattle.x509_der.specs.declared.error.Err.{Err as Refusal};
-ghost use Rattle.x509_der.specs.Elements.{Elem};
-ghost use Rattle.x509_der.specs.Leaves.{octets};
-ghost use Rattle.x509_der.specs.Plan.{run, to_end, got, refusing};
+ghost use Rattle.std.specs.Prelude.{◌≡◌, ◌<◌, ◌≤◌, ◌+◌, ◌-◌, ◌*◌, true, false, IfOk, IsErr, length};
+ghost use Rattle.x509_der.specs.Looks.{behind, is_element, CountedBehind};
+ghost use Rattle.x509_der.specs.Place.{at};
 ghost use Rattle.x509_der.specs.Primitives.{is_constructed};
-ghost use Rattle.x509_der.specs.Promises.{Answers, IsFront, Counted, IsForeign, is_excused, ended_early};
-ghost use Rattle.x509_der.specs.Reading.{Element, Gives, AddsAtLeast, strict, loose};
-ghost use Rattle.x509_fields.specs.declared.error.X509Error.{X509Error as X509Refusal};
-ghost use Rattle.x509_fields.specs.declared.error.X509Error.TheVariants as x509;
+ghost use Rattle.x509_der.specs.Promises.{Answers, ReadsExactly, TriesBounded, IsForeign};
+ghost use Rattle.x509_der.specs.Reading.{Gives, AddsAtLeast, strict};
 ghost use Rattle.x509_fields.specs.Errors.{is_x509_memory};
-ghost use Rattle.x509_extensions.specs.Extensions.{Extension, extension_of, value_bytes, extension_heads, extensions_heads, wrapped_heads, parsed_of, Unparsed};
-ghost use Rattle.x509_extensions.specs.ExtensionGrammar.{envelope_fields, envelope, extension, extensions, wrapper_header, wrapped_extensions};
+ghost use Rattle.x509_extensions.specs.Extension.{extension_of, extension_heads, envelope_fields, envelope, extension};
+ghost use Rattle.x509_extensions.specs.Parsed.{parsed_of, Unparsed};
 
 use crate::extension::X509Extension;
 use crate::parsed::{ParsedExtension, parse_value};
 use std::alloc::Global;
-use x509_der::{
-    BerError, Err, ErrorKind, Header, Sequence, Tries, read_bool_loose, read_header, read_octets,
-    read_oid, read_sequence,
-};
-use x509_fields::{X509Error, X509Result};
+use x509_der::{Err, Place, Three, Tries};
+use x509_fields::{X509Error, X509Result, sequence_at};
 
 /// Reads extensions, with or without what their values say.
 ///
@@ -68,21 +61,13 @@ impl X509ExtensionParser {
     ///
     /// `Error(InvalidExtensions)` where no front of the bytes is an extension, and `Failure(OutOfMemory)`.
     pub fn parse<'a>(&self, alloc: Global, i: &'a [u8]) -> X509Result<'a, X509Extension<'a>>
-        ensures accepted { IfOk result (λ x. IsFront (extension self.now.deep_parse_extensions) i.now (extension_of x.1) x.0.now) }
-        ensures accepts { (a : Extension) (rest : List ℕ) → IsFront (extension self.now.deep_parse_extensions) i.now a rest → Answers is_x509_memory true (λ x. (x.0.now, extension_of x.1)) result (got a rest) }
-        ensures refused { IfErr result (λ e. is_excused is_x509_memory true e ≡ false → (extension self.now.deep_parse_extensions).Refuses i.now e) }
-        ensures refuses { (e : Refusal X509Refusal) → (extension self.now.deep_parse_extensions).Refuses i.now e → Answers is_x509_memory true (λ x. (x.0.now, extension_of x.1)) result (refusing e) }
-        ensures only { (a b : Extension) (rest other : List ℕ) → IsFront (extension self.now.deep_parse_extensions) i.now a rest → IsFront (extension self.now.deep_parse_extensions) i.now b other → (a ≡ b) × (rest ≡ other) }
-        ensures first { IfOk result (λ x. (e : Element) × Elem loose i.now e x.0.now) }
-        ensures longer { IfOk result (λ x. (more : List ℕ) → IsFront (extension self.now.deep_parse_extensions) (i.now ++ more) (extension_of x.1) (x.0.now ++ more)) }
-        ensures shorter { IfOk result (λ x. (n : ℕ) → n + length x.0.now < length i.now → (a : Extension) (rest : List ℕ) → IsFront (extension self.now.deep_parse_extensions) (take n i.now) a rest → ⊥) }
+        ensures { ReadsExactly is_x509_memory true (λ x. (x.0.now, extension_of x.1)) (extension self.now.deep_parse_extensions) i.now result }
     {
         self.read(alloc, &mut Tries::new(), i)
     }
 
     /// The same, and counts the headers that it tries: at most eight for each byte; a shallow reader, for each byte
     /// outside the value.
-    #[tactic(auto, unfolding(crate::specs::ExtensionGrammar::extension))]
     pub fn read<'a>(
         &self,
         alloc: Global,
@@ -90,188 +75,114 @@ impl X509ExtensionParser {
         i: &'a [u8],
     ) -> X509Result<'a, X509Extension<'a>>
         ensures reads { Answers is_x509_memory true (λ x. (x.0.now, extension_of x.1)) result ((extension self.now.deep_parse_extensions).read i.now) }
-        ensures grows { tries.old ≤ tries.new }
-        ensures count { Counted (λ x. length x.0.now) tries.old tries.new (length i.now) result }
-        ensures foreign { IsForeign strict (is_constructed 16) i.now → IsErr result × (tries.new ≤ tries.old + 1) }
-        ensures some { AddsAtLeast (min (length i.now) 1) tries.old tries.new }
-        ensures least { IfOk result (λ x. AddsAtLeast (extension_heads (extension_of x.1)) tries.old tries.new) }
+        ensures tries { TriesBounded strict (is_constructed 16) extension_heads (λ x. (x.0.now, extension_of x.1)) i.now tries.old tries.new result }
         ensures shallow { self.now.deep_parse_extensions ≡ false → IfOk result (λ x. tries.new + 8 + 8 * length x.1.value.now + 8 * length x.0.now ≤ tries.old + 8 * length i.now) }
     {
-        let (rest, mut extension) = read_envelope(tries, i)?;
+        match self.read_marked(alloc, tries, i) {
+            Ok((rest, extension, _)) => Ok((rest, extension)),
+            Err(e) => Err(e),
+        }
+    }
+
+    /// The same, and whether the extension stands plainly.
+    pub fn read_marked<'a>(
+        &self,
+        alloc: Global,
+        tries: &mut Tries,
+        i: &'a [u8],
+    ) -> Result<(&'a [u8], X509Extension<'a>, bool), Err<X509Error>>
+        ensures reads { Answers is_x509_memory true (λ x. (x.0.now, extension_of x.1)) result ((extension self.now.deep_parse_extensions).read i.now) }
+        ensures marks { IfOk result (λ x. x.2 ≡ (extension self.now.deep_parse_extensions).marks i.now) }
+        ensures tries { TriesBounded strict (is_constructed 16) extension_heads (λ x. (x.0.now, extension_of x.1)) i.now tries.old tries.new result }
+        ensures shallow { self.now.deep_parse_extensions ≡ false → IfOk result (λ x. tries.new + 8 + 8 * length x.1.value.now + 8 * length x.0.now ≤ tries.old + 8 * length i.now) }
+    {
+        let place = Place::look(tries, i);
+        let (extension, plain) = self.read_at(alloc, tries, &place)?;
+        Ok((place.rest(), extension, plain))
+    }
+
+    /// Reads the extension at a place that was looked at.
+    #[tactic(auto, unfolding(crate::specs::Extension::extension))]
+    pub fn read_at<'a>(
+        &self,
+        alloc: Global,
+        tries: &mut Tries,
+        place: &Place<'a>,
+    ) -> Result<(X509Extension<'a>, bool), Err<X509Error>>
+        ensures reads { Answers is_x509_memory true (λ x. (behind (at place.now), extension_of x.0)) result ((extension self.now.deep_parse_extensions).read (at place.now)) }
+        ensures marks { IfOk result (λ x. x.1 ≡ (extension self.now.deep_parse_extensions).marks (at place.now)) }
+        ensures grows { tries.old ≤ tries.new }
+        ensures count { CountedBehind (length (behind (at place.now))) tries.old tries.new (length (at place.now)) result }
+        ensures foreign { IsForeign strict (is_constructed 16) (at place.now) → IsErr result × (tries.new ≤ tries.old) }
+        ensures least { IfOk result (λ x. AddsAtLeast (extension_heads (extension_of x.0) - 1) tries.old tries.new) }
+        ensures there { IfOk result (λ _. is_element (at place.now) ≡ true) }
+        ensures shallow { self.now.deep_parse_extensions ≡ false → IfOk result (λ x. tries.new + 9 + 8 * length x.0.value.now + 8 * length (behind (at place.now)) ≤ tries.old + 8 * length (at place.now)) }
+    {
+        let (mut extension, envelope_plain) = read_envelope(tries, place)?;
+        let mut value_plain = true;
         if self.deep_parse_extensions {
-            extension.parsed_extension = parse_value(
-                alloc,
-                tries,
-                &extension.oid,
-                extension.value,
-            )?;
+            let (parsed, plain) = parse_value(alloc, tries, &extension.oid, extension.value)?;
+            extension.parsed_extension = parsed;
+            value_plain = plain;
         }
-        Ok((rest, extension))
-    }
-
-    /// Reads a SEQUENCE that extensions fill (RFC 5280, section 4.1.2.9).
-    ///
-    /// # Errors
-    ///
-    /// Those of the SEQUENCE; `NomError(Eof)` where what stands in it is no extension; `Failure(OutOfMemory)`.
-    #[tactic(auto, unfolding(crate::specs::ExtensionGrammar::extensions))]
-    pub fn read_list<'a>(
-        &self,
-        alloc: Global,
-        tries: &mut Tries,
-        i: &'a [u8],
-    ) -> X509Result<'a, Sequence<X509Extension<'a>>>
-        ensures reads { Answers is_x509_memory true (λ x. (x.0.now, map extension_of x.1)) result ((extensions self.now.deep_parse_extensions).read i.now) }
-        ensures grows { tries.old ≤ tries.new }
-        ensures count { Counted (λ x. length x.0.now) tries.old tries.new (length i.now) result }
-        ensures foreign { IsForeign strict (is_constructed 16) i.now → IsErr result × (tries.new ≤ tries.old + 1) }
-        ensures some { AddsAtLeast (min (length i.now) 1) tries.old tries.new }
-        ensures least { IfOk result (λ x. AddsAtLeast (extensions_heads (map extension_of x.1)) tries.old tries.new) }
-        ensures shallow { self.now.deep_parse_extensions ≡ false → IfOk result (λ x. tries.new + 8 + 8 * value_bytes (map extension_of x.1) + 8 * length x.0.now ≤ tries.old + 8 * length i.now) }
-    {
-        let (rest, contents) = read_sequence(tries, i).map_err(|e| e.convert())?;
-        let list = self.read_to_end(alloc, tries, contents)?;
-        Ok((rest, list))
-    }
-
-    /// Reads the extensions that close a structure: none where nothing is left, else a wrapper with this tag number and
-    /// the SEQUENCE of extensions, to the end of the bytes.
-    ///
-    /// Of the wrapper the number alone is looked at, as other readers do: its class is free, and so is the length that it
-    /// says, in the fewest octets, which the end of the structure makes superfluous.
-    ///
-    /// # Errors
-    ///
-    /// `InvalidExtensions` for the wrapper's header; `NomError(Eof)` where the extensions end before the bytes do; else
-    /// those of [`X509ExtensionParser::read_list`].
-    #[tactic(auto, unfolding(crate::specs::ExtensionGrammar::wrapped_extensions, crate::specs::ExtensionGrammar::wrapped))]
-    pub fn read_wrapped<'a>(
-        &self,
-        alloc: Global,
-        tries: &mut Tries,
-        number: u32,
-        i: &'a [u8],
-    ) -> Result<Sequence<X509Extension<'a>>, Err<X509Error>>
-        ensures reads { Answers is_x509_memory true (λ x. ([], map extension_of x)) result ((wrapped_extensions number self.now.deep_parse_extensions).read i.now) }
-        ensures grows { tries.old ≤ tries.new }
-        ensures count { tries.new ≤ tries.old + 8 * length i.now }
-        ensures least { IfOk result (λ x. AddsAtLeast (wrapped_heads (map extension_of x)) tries.old tries.new) }
-        ensures shallow { self.now.deep_parse_extensions ≡ false → IfOk result (λ x. tries.new + 8 * value_bytes (map extension_of x) ≤ tries.old + 8 * length i.now) }
-    {
-        if i.is_empty() {
-            return Ok(Sequence::new(alloc));
-        }
-        let (inner, _) = read_wrapper(tries, number, i)?;
-        let (rest, list) = self.read_list(alloc, tries, inner)?;
-        if !rest.is_empty() {
-            return Err(Err::Error(X509Error::NomError(ErrorKind::Eof)));
-        }
-        Ok(list)
-    }
-
-    // Extensions up to the end of the bytes.
-    fn read_to_end<'a>(
-        &self,
-        alloc: Global,
-        tries: &mut Tries,
-        i: &'a [u8],
-    ) -> Result<Sequence<X509Extension<'a>>, Err<X509Error>>
-        ensures reads { Answers is_x509_memory true (λ x. ([], map extension_of x)) result ((to_end (ended_early x509.NomError) (run (extension self.now.deep_parse_extensions))).read i.now) }
-        ensures grows { tries.old ≤ tries.new }
-        ensures count { tries.new ≤ tries.old + 8 * length i.now }
-        ensures least { IfOk result (λ x. AddsAtLeast (sum_by extension_heads (map extension_of x)) tries.old tries.new) }
-        ensures shallow { self.now.deep_parse_extensions ≡ false → IfOk result (λ x. tries.new + 8 * value_bytes (map extension_of x) ≤ tries.old + 8 * length i.now) }
-    {
-        let mut list = Sequence::new(alloc);
-        let mut rest = i;
-        while !rest.is_empty() {
-            match self.read(alloc, tries, rest) {
-                Ok((after, extension)) => {
-                    if list.push(extension).is_err() {
-                        return Err(Err::out_of_memory());
-                    }
-                    rest = after;
-                }
-                Err(e) => {
-                    if e.is_out_of_memory() {
-                        return Err(e);
-                    }
-                    return Err(Err::Error(X509Error::NomError(ErrorKind::Eof)));
-                }
-            }
-        }
-        Ok(list)
+        Ok((extension, value_plain & envelope_plain))
     }
 }
 
 // The three fields of an extension, with the refusals of each. The value isn't looked at.
-#[tactic(auto, unfolding(crate::specs::ExtensionGrammar::envelope_fields))]
-fn read_envelope_fields<'a>(tries: &mut Tries, i: &'a [u8]) -> X509Result<'a, X509Extension<'a>>
-    ensures reads { Gives (λ x. (x.0.now, extension_of x.1)) result (envelope_fields.read i.now) }
+#[inline(always)]
+#[tactic(auto, unfolding(crate::specs::Extension::envelope_fields), using(x509_der::proofs::Marking::marks_of_readers))]
+fn read_envelope_fields<'a>(
+    tries: &mut Tries,
+    place: &Place<'a>,
+) -> Result<(X509Extension<'a>, bool), Err<X509Error>>
+    ensures reads { Gives (λ x. (behind (at place.now), extension_of x.0)) result (envelope_fields.read (at place.now)) }
+    ensures marks { IfOk result (λ x. x.1 ≡ envelope_fields.marks (at place.now)) }
     ensures grows { tries.old ≤ tries.new }
-    ensures unparsed { IfOk result (λ x. parsed_of x.1.parsed_extension ≡ Unparsed) }
-    ensures sizes { IfOk result (λ x. length x.0.now + length x.1.value.now + 6 ≤ length i.now) }
-    ensures count { IfOk result (λ x. tries.new + 8 + 8 * length x.1.value.now + 8 * length x.0.now ≤ tries.old + 8 * length i.now) }
-    ensures few_tries { tries.new ≤ tries.old + min (length i.now) 4 }
-    ensures foreign { IsForeign strict (is_constructed 16) i.now → IsErr result × (tries.new ≤ tries.old + 1) }
-    ensures some { AddsAtLeast (min (length i.now) 1) tries.old tries.new }
-    ensures least { IfOk result (λ x. AddsAtLeast (extension_heads (extension_of x.1)) tries.old tries.new) }
+    ensures unparsed { IfOk result (λ x. parsed_of x.0.parsed_extension ≡ Unparsed) }
+    ensures count { IfOk result (λ x. tries.new + 9 + 8 * length x.0.value.now + 8 * length (behind (at place.now)) ≤ tries.old + 8 * length (at place.now)) }
+    ensures few_tries { tries.new ≤ tries.old + (8 * length (at place.now) - 8) }
+    ensures foreign { IsForeign strict (is_constructed 16) (at place.now) → IsErr result × (tries.new ≤ tries.old) }
+    ensures least { IfOk result (λ x. AddsAtLeast (extension_heads (extension_of x.0) - 1) tries.old tries.new) }
+    ensures there { IfOk result (λ _. is_element (at place.now) ≡ true) }
 {
-    let (rest, contents) = read_sequence(tries, i).map_err(|e| e.convert())?;
-    let (tail, oid) = read_oid(tries, contents).map_err(|e| e.convert())?;
-    let (tail, critical) = match read_bool_loose(tries, tail) {
-        Ok((behind, critical)) => (behind, critical),
-        Err(_) => (tail, false),
+    let contents = sequence_at(place)?;
+    let Three {
+        first,
+        second,
+        third,
+    } = Three::cut(tries, contents);
+    let oid = first.oid().map_err(|e| e.convert())?;
+    let (last, critical, plain) = match second.bool_marked() {
+        Ok((critical, plain)) => (third, critical, plain),
+        Err(_) => (second, false, true),
     };
-    let (_, value) = read_value(tries, tail).map_err(|e| e.convert())?;
-    Ok((
-        rest,
-        X509Extension {
-            oid,
-            critical,
-            value,
-            parsed_extension: ParsedExtension::Unparsed,
-        },
-    ))
-}
-
-// The contents of an OCTET STRING.
-fn read_value<'a>(tries: &mut Tries, i: &'a [u8]) -> Result<(&'a [u8], &'a [u8]), Err<BerError>>
-    ensures reads { Gives (λ x. (x.0.now, x.1.now)) result (octets.read i.now) }
-    ensures few_tries { tries.new ≤ tries.old + min (length i.now) 1 }
-    ensures some { AddsAtLeast (min (length i.now) 1) tries.old tries.new }
-    ensures grows { tries.old ≤ tries.new }
-    ensures sizes { IfOk result (λ x. length x.0.now + length x.1.now + 2 ≤ length i.now) }
-{
-    read_octets(tries, i)
+    let value = last.octets().map_err(|e| e.convert())?;
+    let extension = X509Extension {
+        oid,
+        critical,
+        value,
+        parsed_extension: ParsedExtension::Unparsed,
+    };
+    Ok((extension, plain & last.rest().is_empty()))
 }
 
 // An extension whose value isn't looked at.
-#[tactic(auto, unfolding(crate::specs::ExtensionGrammar::envelope))]
-fn read_envelope<'a>(tries: &mut Tries, i: &'a [u8]) -> X509Result<'a, X509Extension<'a>>
-    ensures reads { Gives (λ x. (x.0.now, extension_of x.1)) result (envelope.read i.now) }
-    ensures unparsed { IfOk result (λ x. parsed_of x.1.parsed_extension ≡ Unparsed) }
+#[inline(always)]
+#[tactic(auto, unfolding(crate::specs::Extension::envelope))]
+fn read_envelope<'a>(
+    tries: &mut Tries,
+    place: &Place<'a>,
+) -> Result<(X509Extension<'a>, bool), Err<X509Error>>
+    ensures reads { Gives (λ x. (behind (at place.now), extension_of x.0)) result (envelope.read (at place.now)) }
+    ensures marks { IfOk result (λ x. x.1 ≡ envelope.marks (at place.now)) }
     ensures grows { tries.old ≤ tries.new }
-    ensures count { IfOk result (λ x. tries.new + 8 + 8 * length x.1.value.now + 8 * length x.0.now ≤ tries.old + 8 * length i.now) }
-    ensures few_tries { tries.new ≤ tries.old + min (length i.now) 4 }
-    ensures foreign { IsForeign strict (is_constructed 16) i.now → IsErr result × (tries.new ≤ tries.old + 1) }
-    ensures some { AddsAtLeast (min (length i.now) 1) tries.old tries.new }
-    ensures least { IfOk result (λ x. AddsAtLeast (extension_heads (extension_of x.1)) tries.old tries.new) }
+    ensures unparsed { IfOk result (λ x. parsed_of x.0.parsed_extension ≡ Unparsed) }
+    ensures count { IfOk result (λ x. tries.new + 9 + 8 * length x.0.value.now + 8 * length (behind (at place.now)) ≤ tries.old + 8 * length (at place.now)) }
+    ensures few_tries { tries.new ≤ tries.old + (8 * length (at place.now) - 8) }
+    ensures foreign { IsForeign strict (is_constructed 16) (at place.now) → IsErr result × (tries.new ≤ tries.old) }
+    ensures least { IfOk result (λ x. AddsAtLeast (extension_heads (extension_of x.0) - 1) tries.old tries.new) }
+    ensures there { IfOk result (λ _. is_element (at place.now) ≡ true) }
 {
-    read_envelope_fields(tries, i).map_err(|_| Err::Error(X509Error::InvalidExtensions))
-}
-
-// What stands behind a header with this tag number, whatever its class and its length.
-#[tactic(auto, unfolding(crate::specs::ExtensionGrammar::wrapper_header))]
-fn read_wrapper<'a>(tries: &mut Tries, number: u32, i: &'a [u8]) -> X509Result<'a, Header>
-    ensures reads { Gives (λ x. (x.0.now, x.1)) result ((wrapper_header number).read i.now) }
-    ensures few_tries { tries.new ≤ tries.old + min (length i.now) 1 }
-    ensures some { AddsAtLeast (min (length i.now) 1) tries.old tries.new }
-    ensures grows { tries.old ≤ tries.new }
-    ensures sizes { IfOk result (λ x. length x.0.now + 2 ≤ length i.now) }
-{
-    match read_header(tries, i) {
-        Ok((inner, header)) if header.tag.0 == number => Ok((inner, header)),
-        _ => Err(Err::Error(X509Error::InvalidExtensions)),
-    }
+    read_envelope_fields(tries, place).map_err(|_| Err::Error(X509Error::InvalidExtensions))
 }

@@ -5,13 +5,15 @@ ghost use Rattle.x509_der.specs.Oid.{oid_bytes};
 ghost use Rattle.x509_der.specs.Primitives.{is_constructed};
 ghost use Rattle.x509_der.specs.Promises.{option_view};
 ghost use Rattle.x509_der.specs.Reading.{element_of, strict};
-ghost use Rattle.x509_fields.specs.Algorithms.{Algorithm, algorithm_of, algorithm_heads};
-ghost use Rattle.x509_fields.specs.Fields.{algorithm};
-ghost use Rattle.x509_fields.specs.Laws.{algorithm_laws};
+ghost use Rattle.x509_fields.specs.Algorithm.{Algorithm, algorithm_of, algorithm_heads, algorithm, algorithm_laws};
 
 use crate::error::X509Error;
+use crate::structure::sequence_at;
 use std::alloc::Global;
-use x509_der::{Any, Err, FromDer, Oid, Tries, read_any, read_oid, read_sequence};
+use x509_der::{Any, Err, FromDer, Oid, Place, Tries, Two};
+
+#[cfg(test)]
+mod tests;
 
 /// An algorithm and its parameters, where they stand (RFC 5280, section 4.1.1.2).
 ///
@@ -61,38 +63,39 @@ impl<'a> FromDer<'a, X509Error> for AlgorithmIdentifier<'a> {
 
     ghost plan = { algorithm };
 
-    ghost laws = { algorithm_laws.lawful };
+    ghost laws = { algorithm_laws.laws.lawful };
+
+    ghost marked = { algorithm_laws.marked };
 
     ghost form = { strict };
 
-    ghost own = { is_constructed 16 };
+    ghost own_tag = { is_constructed 16 };
 
     ghost heads = { algorithm_heads };
 
     ghost takes_memory = { false };
 
-    #[tactic(auto, unfolding(crate::specs::Fields::algorithm))]
-    fn read(
+    #[tactic(auto, unfolding(crate::specs::Algorithm::algorithm), using(x509_der::proofs::Marking::marks_of_readers))]
+    fn read_at(
         _alloc: Global,
         tries: &mut Tries,
-        i: &'a [u8],
-    ) -> Result<(&'a [u8], Self), Err<X509Error>> {
-        let (rest, contents) = read_sequence(tries, i).map_err(|e| e.convert())?;
-        let (tail, algorithm) = read_oid(tries, contents).map_err(|_| Err::Error(
-            X509Error::InvalidAlgorithmIdentifier,
-        ))?;
-        let parameters = match read_any(tries, tail) {
-            Ok((_, any)) => Some(any),
-            Err(_) => None,
+        place: &Place<'a>,
+    ) -> Result<(Self, bool), Err<X509Error>> {
+        let contents = sequence_at(place)?;
+        let Two { first, second } = Two::cut(tries, contents);
+        let algorithm = first
+            .oid()
+            .map_err(|_| Err::Error(X509Error::InvalidAlgorithmIdentifier))?;
+        let (tail, parameters) = match second.any() {
+            Ok(any) => (second.rest(), Some(any)),
+            Err(_) => (second.bytes(), None),
         };
-        Ok((
-            rest,
-            AlgorithmIdentifier {
-                algorithm,
-                parameters,
-            },
-        ))
+        let identifier = AlgorithmIdentifier {
+            algorithm,
+            parameters,
+        };
+        Ok((identifier, tail.is_empty()))
     }
 
-    ghost sober = { algorithm_laws.sober };
+    ghost never_memory = { algorithm_laws.laws.never_memory };
 }

@@ -7,8 +7,8 @@ ghost use Rattle.x509_keys.specs.KeyInfo.{KeyInfo, key_info_of, key_info, key_in
 ghost use Rattle.x509_keys.specs.Laws.{key_info_laws};
 
 use std::alloc::Global;
-use x509_der::{BitString, Err, FromDer, Tries, read_bits, read_sequence};
-use x509_fields::{AlgorithmIdentifier, X509Error};
+use x509_der::{BitString, Err, FromDer, Place, Tries, Two};
+use x509_fields::{AlgorithmIdentifier, X509Error, sequence_at};
 
 /// A public key and its algorithm (RFC 5280, section 4.1.2.7).
 ///
@@ -34,37 +34,40 @@ impl<'a> FromDer<'a, X509Error> for SubjectPublicKeyInfo<'a> {
 
     ghost plan = { key_info };
 
-    ghost laws = { key_info_laws.lawful };
+    ghost laws = { key_info_laws.laws.lawful };
+
+    ghost marked = { key_info_laws.marked };
 
     ghost form = { strict };
 
-    ghost own = { is_constructed 16 };
+    ghost own_tag = { is_constructed 16 };
 
     ghost heads = { key_info_heads };
 
     ghost takes_memory = { false };
 
-    #[tactic(auto, unfolding(crate::specs::KeyInfo::key_info))]
-    fn read(
+    #[tactic(auto, unfolding(crate::specs::KeyInfo::key_info), using(x509_der::proofs::Marking::marks_of_readers))]
+    fn read_at(
         alloc: Global,
         tries: &mut Tries,
-        i: &'a [u8],
-    ) -> Result<(&'a [u8], Self), Err<X509Error>> {
-        let (rest, contents) = read_sequence(tries, i).map_err(|e| e.convert())?;
-        let (tail, algorithm) = AlgorithmIdentifier::read(alloc, tries, contents)?;
-        let (tail, subject_public_key) = read_bits(tries, tail).map_err(|_| Err::Error(
-            X509Error::InvalidSPKI,
-        ))?;
-        let raw = &i[..i.len() - (tail.len() + rest.len())];
-        Ok((
-            rest,
-            SubjectPublicKeyInfo {
-                algorithm,
-                subject_public_key,
-                raw,
-            },
-        ))
+        place: &Place<'a>,
+    ) -> Result<(Self, bool), Err<X509Error>> {
+        let contents = sequence_at(place)?;
+        let Two { first, second } = Two::cut(tries, contents);
+        let (algorithm, plain) = AlgorithmIdentifier::read_at(alloc, tries, &first)?;
+        let subject_public_key = second
+            .bits()
+            .map_err(|_| Err::Error(X509Error::InvalidSPKI))?;
+        let tail = second.rest();
+        let bytes = place.bytes();
+        let raw = &bytes[..bytes.len() - (tail.len() + place.rest().len())];
+        let info = SubjectPublicKeyInfo {
+            algorithm,
+            subject_public_key,
+            raw,
+        };
+        Ok((info, plain & tail.is_empty()))
     }
 
-    ghost sober = { key_info_laws.sober };
+    ghost never_memory = { key_info_laws.laws.never_memory };
 }

@@ -9,14 +9,13 @@ use Rattle.x509_der.specs.Elements.{ElementIs}
 use Rattle.x509_der.proofs.Results.{got_not_err, err, err_is}
 use Rattle.x509_fields.specs.declared.error.X509Error.{X509Error}
 use Rattle.x509_fields.specs.Errors.{is_x509_memory, x509_word}
-use Rattle.x509_certs.specs.Certificates.{Certificate}
-use Rattle.x509_certs.specs.CertificateGrammar.{certificate}
+use Rattle.x509_certs.specs.Certificate.{Certificate, certificate}
 use Rattle.x509_show.specs.Parts.{IsDrainedOf}
 use Rattle.x509_show.specs.Report.{Report, IsOnly, refused_report}
 use Rattle.x509_show.specs.ElementReport.{IsElementReport, accepted_report, reading_report}
 use Rattle.x509_show.specs.CertificateReport.{IsCertificateReport, certificate_report}
 use Rattle.x509_show.specs.Commands.{IsReport, IsCommand, command_word, usage_report}
-use Rattle.x509_show.specs.Answers.{IsStopped, WriteStops}
+use Rattle.x509_show.specs.Runs.{IsStopped, WriteStops}
 use Rattle.x509_show.specs.declared.commands.Command.{Command}
 use Rattle.x509_show.specs.declared.commands.Command.TheVariants as commands
 use Rattle.x509_show.specs.declared.stop.Stop.{Stop}

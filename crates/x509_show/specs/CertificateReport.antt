@@ -8,11 +8,10 @@ use Rattle.x509_der.specs.Promises.{IsFront}
 use Rattle.x509_fields.specs.declared.error.X509Error.{X509Error}
 use Rattle.x509_fields.specs.Errors.{x509_word}
 use Rattle.x509_fields.specs.NameTexts.{shown_name}
-use Rattle.x509_fields.specs.TimeText.{time_text}
-use Rattle.x509_fields.specs.Versions.{version_text}
-use Rattle.x509_extensions.specs.Extensions.{Extension}
-use Rattle.x509_certs.specs.Certificates.{Certificate}
-use Rattle.x509_certs.specs.CertificateGrammar.{certificate}
+use Rattle.x509_fields.specs.Times.{time_text}
+use Rattle.x509_fields.specs.Version.{version_text}
+use Rattle.x509_extensions.specs.Extension.{Extension}
+use Rattle.x509_certs.specs.Certificate.{Certificate, certificate}
 use Rattle.x509_show.specs.Report.{Report, refused_report}
 
 -- a label, a colon and a space, what is shown, and a newline

@@ -3,5 +3,5 @@ pub mod Report
 pub mod ElementReport
 pub mod CertificateReport
 pub mod Commands
-pub mod Answers
+pub mod Runs
 pub mod Words

@@ -1,8 +1,8 @@
 //! The report of a certificate.
 
 ghost use Rattle.std.specs.Prelude.{◌≡◌, ◌++◌, IfSome, OnOk, MatchResult, flat_map, map, string_bytes};
-ghost use Rattle.x509_extensions.specs.Extensions.{extension_of};
-ghost use Rattle.x509_certs.specs.Certificates.{certificate_of};
+ghost use Rattle.x509_extensions.specs.Extension.{extension_of};
+ghost use Rattle.x509_certs.specs.Certificate.{certificate_of};
 ghost use Rattle.x509_show.specs.declared.stop.Stop.TheVariants.{Memory};
 ghost use Rattle.x509_show.specs.Report.{IsOnly};
 ghost use Rattle.x509_show.specs.CertificateReport.{IsCertificateReport, critical_word, line, extension_line, certificate_text};

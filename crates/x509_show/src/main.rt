@@ -1,20 +1,21 @@
 //! Shows what is in the DER that standard input gives: `x509_show der|cert|crl|csr`.
 #![tactic(auto)]
 
-mod answer;
 mod certificate_report;
 mod commands;
 mod element_report;
 mod parts;
 mod report;
+mod runs;
 mod stop;
 mod streams;
 #[cfg(test)]
 mod tests;
 mod words;
 
-use crate::answer::{STOPPED, run};
-use crate::streams::{Reading, Writing};
+use crate::runs::{STOPPED, cause, run};
+use crate::stop::Stop;
+use crate::streams::{ReaderSource, WriterSink};
 use crate::words::only_word;
 use std::alloc::Global;
 use std::io::ErrorKind;
@@ -32,12 +33,23 @@ fn command(rt: &HostRuntime) -> io::Result<String> {
     }
 }
 
+/// Says on standard error why the program stopped, where that can be written, and gives its exit status.
+fn stopped(rt: &impl Eprint, stop: &Stop) -> ExitCode {
+    let why = stop.why();
+    let _ = eprintln!(rt; "x509_show: {why}");
+    ExitCode::from(STOPPED)
+}
+
 /// Answers the command line over the standard streams, and exits with the status of [`run`].
 fn main(rt: HostRuntime) -> ExitCode {
     let Ok(command) = command(&rt) else {
-        return ExitCode::from(STOPPED);
+        return stopped(&rt, &Stop::Memory);
     };
-    let mut reader = Reading::new(rt.reader());
-    let mut writer = Writing::new(io::writer(&rt));
-    ExitCode::from(run(rt.alloc(), command.as_str(), &mut reader, &mut writer))
+    let mut reader = ReaderSource::new(rt.reader());
+    let mut writer = WriterSink::new(io::writer(&rt));
+    let status = run(rt.alloc(), command.as_str(), &mut reader, &mut writer);
+    if status == STOPPED {
+        return stopped(&rt, &cause(&reader, &writer));
+    }
+    ExitCode::from(status)
 }

@@ -2,6 +2,7 @@
 
 ghost use Rattle.std.specs.Prelude.{◌≡◌};
 ghost use Rattle.x509_show.specs.declared.stop.Stop.{Stop};
+ghost use Rattle.x509_show.specs.Runs.{stop_words};
 
 use std::alloc::AllocError;
 
@@ -14,6 +15,19 @@ pub enum Stop {
     Write,
     /// Memory was refused.
     Memory,
+}
+
+impl Stop {
+    /// Why, in the words that standard error is told.
+    pub fn why(&self) -> &'static str
+        ensures { result.now ≡ stop_words self.now }
+    {
+        match self {
+            Self::Read => "standard input can't be read",
+            Self::Write => "standard output can't be written",
+            Self::Memory => "out of memory",
+        }
+    }
 }
 
 impl From<AllocError> for Stop {

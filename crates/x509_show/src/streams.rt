@@ -8,25 +8,25 @@ use std::io::{Read, Write};
 
 /// A reader, and whether a read of it has failed.
 #[derive(Drop)]
-pub struct Reading<R> {
+pub struct ReaderSource<R> {
     inner: R,
     failed: bool,
 }
 
-impl<R: Read> Reading<R> {
+impl<R: Read> ReaderSource<R> {
     /// This reader, of which no read has failed.
-    pub fn new(inner: R) -> Reading<R>
+    pub fn new(inner: R) -> ReaderSource<R>
         ensures inner { result.inner ≡ inner }
         ensures well { result.failed ≡ false }
     {
-        Reading {
+        ReaderSource {
             inner,
             failed: false,
         }
     }
 }
 
-impl<R: Read> Source for Reading<R> {
+impl<R: Read> Source for ReaderSource<R> {
     ghost remaining = { λ s. R.remaining s.inner };
 
     ghost has_failed = { λ s. s.failed };
@@ -47,25 +47,25 @@ impl<R: Read> Source for Reading<R> {
 
 /// A writer, and whether a write to it has failed or taken no byte.
 #[derive(Drop)]
-pub struct Writing<W> {
+pub struct WriterSink<W> {
     inner: W,
     stuck: bool,
 }
 
-impl<W: Write> Writing<W> {
+impl<W: Write> WriterSink<W> {
     /// This writer, to which no write has failed.
-    pub fn new(inner: W) -> Writing<W>
+    pub fn new(inner: W) -> WriterSink<W>
         ensures inner { result.inner ≡ inner }
         ensures well { result.stuck ≡ false }
     {
-        Writing {
+        WriterSink {
             inner,
             stuck: false,
         }
     }
 }
 
-impl<W: Write> Sink for Writing<W> {
+impl<W: Write> Sink for WriterSink<W> {
     ghost written = { λ s. W.contents s.inner };
 
     ghost has_failed = { λ s. s.stuck };

@@ -1,13 +1,15 @@
 //! Runs over memory, and over readers and writers of std.
 
 mod certificates;
+mod large;
 mod memory;
 
 use self::memory::{MemorySink, MemorySource};
-use crate::answer::run;
 use crate::element_report::element_report;
 use crate::parts::{Sink, Source};
-use crate::streams::{Reading, Writing};
+use crate::runs::{cause, run};
+use crate::stop::Stop;
+use crate::streams::{ReaderSource, WriterSink};
 use std::test::Fail;
 
 /// An X.509 certificate that is empty wherever it may be: 66 bytes.
@@ -87,6 +89,7 @@ fn second_read_fails(rt: HostRuntime) -> Result<(), Fail> {
     assert_eq!(rt; run(rt.alloc(), "der", &mut from, &mut to), 3);
     assert!(rt; to.bytes().is_empty());
     assert!(rt; from.failed() && !to.failed());
+    assert_eq!(rt; cause(&from, &to).why(), "standard input can't be read");
     Ok(())
 }
 
@@ -111,6 +114,7 @@ fn writer_stops(rt: HostRuntime) -> Result<(), Fail> {
         assert_eq!(rt; run(rt.alloc(), "der", &mut from, &mut to), 3);
         assert_eq!(rt; to.bytes(), taken.as_bytes());
         assert!(rt; to.failed() && !from.failed());
+        assert_eq!(rt; cause(&from, &to).why(), "standard output can't be written");
     }
     Ok(())
 }
@@ -128,8 +132,8 @@ fn usage_cut_short(rt: HostRuntime) -> Result<(), Fail> {
 #[test]
 fn streams_of_std(rt: HostRuntime) -> Result<(), Fail> {
     let mut bytes = Vec::new(rt.alloc());
-    let mut from = Reading::new(CERTIFICATE);
-    let mut to = Writing::new(&mut bytes);
+    let mut from = ReaderSource::new(CERTIFICATE);
+    let mut to = WriterSink::new(&mut bytes);
     assert_eq!(rt; run(rt.alloc(), "der", &mut from, &mut to), 0);
     assert!(rt; !from.failed() && !to.failed());
     assert_eq!(rt; bytes.as_slice(), CERTIFICATE_LINE.as_bytes());
@@ -141,5 +145,14 @@ fn reports(rt: HostRuntime) -> Result<(), Fail> {
     let report = element_report(rt.alloc(), CERTIFICATE)?;
     assert_eq!(rt; report.text(), CERTIFICATE_LINE);
     assert_eq!(rt; report.status(), 0);
+    Ok(())
+}
+
+#[test]
+fn why_of_want_of_memory(rt: HostRuntime) -> Result<(), Fail> {
+    let from = MemorySource::new(CERTIFICATE, 0, 1);
+    let to = MemorySink::new(Vec::new(rt.alloc()), 0, 0, 1);
+    assert_eq!(rt; cause(&from, &to).why(), "out of memory");
+    assert_eq!(rt; Stop::Memory.why(), "out of memory");
     Ok(())
 }

@@ -2,11 +2,11 @@
 
 use super::CERTIFICATE;
 use super::memory::{MemorySink, MemorySource};
-use crate::answer::run;
 use crate::parts::{Sink, Source};
+use crate::runs::run;
 use std::test::Fail;
 
-const LINES: &str = "version: V1\nserial: 01\nsignature: 1.2\nissuer: \n\
+pub const LINES: &str = "version: V1\nserial: 01\nsignature: 1.2\nissuer: \n\
     not before: Jan  1 00:00:00 1970 +00:00\nnot after: Dec 31 23:59:59 2049 +00:00\nsubject: \nkey: 1.2\n\
     tbs: 56\nrest: 0\n";
 

@@ -3,10 +3,9 @@ use Rattle.std.specs.Fmt.{decimal}
 use Rattle.x509_der.specs.Oid.{oid_bytes, oid_text}
 use Rattle.x509_fields.specs.Names.{name_of}
 use Rattle.x509_fields.specs.NameTexts.{shown_name}
-use Rattle.x509_fields.specs.Times.{time_of}
-use Rattle.x509_fields.specs.TimeText.{time_text}
-use Rattle.x509_fields.specs.Versions.{version_text}
-use Rattle.x509_extensions.specs.Extensions.{extension_of}
+use Rattle.x509_fields.specs.Times.{time_of, time_text}
+use Rattle.x509_fields.specs.Version.{version_text}
+use Rattle.x509_extensions.specs.Extension.{extension_of}
 use Rattle.x509_show.specs.CertificateReport.{line, extension_line, certificate_text}
 use Rattle.x509_show.proofs.certificate_report.certificate_text.Goals as goal
 

@@ -1,4 +1,4 @@
-use Rattle.x509_extensions.specs.Extensions.{extension_of}
+use Rattle.x509_extensions.specs.Extension.{extension_of}
 use Rattle.x509_show.specs.CertificateReport.{extension_line}
 use Rattle.x509_show.proofs.Reports.{lines_more}
 use Rattle.x509_show.proofs.certificate_report.push_extensions.Goals as goal

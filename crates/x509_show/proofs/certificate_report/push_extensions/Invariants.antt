@@ -1,5 +1,5 @@
 use Rattle.std.proofs.Common.{◌≡◌, ◌++◌, flat_map, map, take, string_bytes}
-use Rattle.x509_extensions.specs.Extensions.{extension_of}
+use Rattle.x509_extensions.specs.Extension.{extension_of}
 use Rattle.x509_show.specs.CertificateReport.{extension_line}
 use Rattle.x509_show.proofs.certificate_report.push_extensions.Given as goal
 

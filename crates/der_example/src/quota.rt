@@ -1,0 +1,67 @@
+//! Two numbers that may be absent, and nothing behind them.
+
+ghost use Rattle.std.specs.Prelude.{false};
+ghost use Rattle.x509_der.specs.Leaves.{sequence};
+ghost use Rattle.x509_der.specs.Primitives.{is_constructed};
+ghost use Rattle.x509_der.specs.Promises.{OneTryEach};
+ghost use Rattle.x509_der.specs.Reading.{strict};
+ghost use Rattle.der_example.specs.Quota.{QuotaValue, quota_of, quota, quota_heads, quota_laws};
+
+use std::alloc::Global;
+use x509_der::{BerError, Elements, Err, ErrorKind, FromDer, Place, Tries};
+
+/// How many each may have, and all together.
+#[derive(Clone, Copy, Debug, PartialEq, Eq)]
+pub struct Quota {
+    pub each: Option<u32>,
+    pub all: Option<u32>,
+}
+
+impl<'a> FromDer<'a, BerError> for Quota {
+    ghost Value = { QuotaValue };
+
+    ghost view = { quota_of };
+
+    ghost plan = { quota };
+
+    ghost laws = { quota_laws.laws.lawful };
+
+    ghost marked = { quota_laws.marked };
+
+    ghost form = { strict };
+
+    ghost own_tag = { is_constructed 16 };
+
+    ghost heads = { quota_heads };
+
+    ghost takes_memory = { false };
+
+    ghost tight = { OneTryEach sequence };
+
+    #[tactic(auto, unfolding(crate::specs::Quota::quota), using(x509_der::proofs::Marking::marks_of_readers))]
+    fn read_at(
+        _alloc: Global,
+        tries: &mut Tries,
+        place: &Place<'a>,
+    ) -> Result<(Self, bool), Err<BerError>> {
+        let contents = place.sequence()?;
+        let children: Elements<'_, 2> = Elements::cut(tries, contents);
+        let (k, each) = match children.at(0).implicit_u32(0) {
+            Ok(number) => (1, Some(number)),
+            Err(_) => (0, None),
+        };
+        let (k, all) = match children.at(k).implicit_u32(1) {
+            Ok(number) => (k + 1, Some(number)),
+            Err(_) => (k, None),
+        };
+        if !children.at(k).bytes().is_empty() {
+            return Err(Err::Error(BerError::NomError(ErrorKind::Eof)));
+        }
+        Ok((Quota { each, all }, true))
+    }
+
+    ghost never_memory = { quota_laws.laws.never_memory };
+}
+
+#[cfg(test)]
+mod tests;

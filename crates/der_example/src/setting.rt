@@ -1,0 +1,67 @@
+//! A truth and a number that may be absent, and nothing behind them.
+
+ghost use Rattle.std.specs.Prelude.{false};
+ghost use Rattle.x509_der.specs.Leaves.{sequence};
+ghost use Rattle.x509_der.specs.Primitives.{is_constructed};
+ghost use Rattle.x509_der.specs.Promises.{OneTryEach};
+ghost use Rattle.x509_der.specs.Reading.{strict};
+ghost use Rattle.der_example.specs.Setting.{SettingValue, setting_of, setting, setting_heads, setting_laws};
+
+use std::alloc::Global;
+use x509_der::{BerError, Elements, Err, FromDer, Place, Tries};
+
+/// Whether something is on, and how much.
+#[derive(Clone, Copy, Debug, PartialEq, Eq)]
+pub struct Setting {
+    pub on: Option<bool>,
+    pub level: Option<u32>,
+}
+
+impl<'a> FromDer<'a, BerError> for Setting {
+    ghost Value = { SettingValue };
+
+    ghost view = { setting_of };
+
+    ghost plan = { setting };
+
+    ghost laws = { setting_laws.laws.lawful };
+
+    ghost marked = { setting_laws.marked };
+
+    ghost form = { strict };
+
+    ghost own_tag = { is_constructed 16 };
+
+    ghost heads = { setting_heads };
+
+    ghost takes_memory = { false };
+
+    ghost tight = { OneTryEach sequence };
+
+    #[tactic(auto, unfolding(crate::specs::Setting::setting, crate::specs::Setting::setting_fields), using(x509_der::proofs::Marking::marks_of_readers))]
+    fn read_at(
+        _alloc: Global,
+        tries: &mut Tries,
+        place: &Place<'a>,
+    ) -> Result<(Self, bool), Err<BerError>> {
+        let contents = place.sequence()?;
+        let children: Elements<'_, 2> = Elements::cut(tries, contents);
+        let (k, on) = match children.at(0).bool() {
+            Ok(on) => (1, Some(on)),
+            Err(_) => (0, None),
+        };
+        let (k, level) = match children.at(k).u32() {
+            Ok(number) => (k + 1, Some(number)),
+            Err(_) => (k, None),
+        };
+        if !children.at(k).bytes().is_empty() {
+            return Err(Err::Error(BerError::BerValueError));
+        }
+        Ok((Setting { on, level }, true))
+    }
+
+    ghost never_memory = { setting_laws.laws.never_memory };
+}
+
+#[cfg(test)]
+mod tests;

@@ -1,0 +1,85 @@
+//! The version in its wrapper (RFC 5280, section 4.1.2.1).
+
+ghost use Rattle.std.specs.Prelude.{◌≡◌, ◌<◌, ◌≤◌, ◌+◌, ◌-◌, ◌*◌, true, IfOk, IfErr, length};
+ghost use Rattle.x509_der.specs.Children.{window_of, count_of};
+ghost use Rattle.x509_der.specs.Looks.{behind, is_element, place_at, IsNext};
+ghost use Rattle.x509_der.specs.Place.{at};
+ghost use Rattle.x509_der.specs.Promises.{option_view, option_heads};
+ghost use Rattle.x509_der.specs.Reading.{AddsAtLeast, Gives};
+ghost use Rattle.x509_certs.specs.ExplicitVersion.{version_wrapper, wrapped_version, explicit_version};
+
+use x509_der::{Class, Elements, Err, Header, Place, Tag, Tries};
+use x509_fields::{X509Error, X509Version};
+
+// The contents of a constructed element.
+#[inline(always)]
+#[tactic(auto, unfolding(crate::specs::ExplicitVersion::version_wrapper, x509_der::specs::Leaves::any, x509_der::specs::Primitives::contents_at))]
+fn version_wrapper_of<'a>(place: &Place<'a>) -> Result<&'a [u8], Err<X509Error>>
+    ensures reads { Gives (λ x. (behind (at place.now), x.now)) result (version_wrapper.read (at place.now)) }
+    ensures marks { version_wrapper.marks (at place.now) ≡ true }
+    ensures there { IfOk result (λ _. is_element (at place.now) ≡ true) }
+    ensures sizes { IfOk result (λ _. length (behind (at place.now)) + 2 ≤ length (at place.now)) }
+{
+    let wrapper = place.any().map_err(|e| e.convert())?;
+    if !wrapper.header().constructed {
+        return Err(Err::Error(X509Error::InvalidVersion));
+    }
+    Ok(wrapper.as_bytes())
+}
+
+// A version in its wrapper; bytes behind it there are skipped.
+#[inline(always)]
+#[tactic(auto, unfolding(crate::specs::ExplicitVersion::wrapped_version, x509_fields::specs::Version::version), using(x509_der::proofs::Marking::marks_of_readers))]
+fn read_wrapped_version<'a>(
+    tries: &mut Tries,
+    place: &Place<'a>,
+) -> Result<(X509Version, bool), Err<X509Error>>
+    ensures reads { Gives (λ x. (behind (at place.now), x.0.0)) result (wrapped_version.read (at place.now)) }
+    ensures marks { IfOk result (λ x. x.1 ≡ wrapped_version.marks (at place.now)) }
+    ensures grows { tries.old ≤ tries.new }
+    ensures few_tries { tries.new ≤ tries.old + 1 }
+    ensures none { IfErr result (λ _. length (at place.now) ≡ 0 → tries.new ≡ tries.old) }
+    ensures least { IfOk result (λ _. AddsAtLeast 1 tries.old tries.new) }
+    ensures there { IfOk result (λ _. is_element (at place.now) ≡ true) }
+    ensures sizes { IfOk result (λ _. length (behind (at place.now)) + 2 ≤ length (at place.now)) }
+{
+    let contents = version_wrapper_of(place)?;
+    let inner = Place::look(tries, contents);
+    let version = inner
+        .u32()
+        .map_err(|_| Err::Error(X509Error::InvalidVersion))?;
+    Ok((X509Version(version), inner.rest().is_empty()))
+}
+
+/// The version in its wrapper at the first place, absent where another element stands; and the number of the next place.
+#[inline(always)]
+#[tactic(auto, unfolding(crate::specs::ExplicitVersion::explicit_version), using(x509_der::proofs::Marking::marks_of_readers))]
+pub(crate) fn read_version<'a, const N: usize>(
+    tries: &mut Tries,
+    children: &Elements<'a, N>,
+) -> Result<(usize, Option<X509Version>, bool), Err<X509Error>>
+    requires { 0 < N }
+    ensures reads { Gives (λ x. (place_at (window_of children.now) x.0, option_view (λ v. v.0) x.1)) result (explicit_version.read (window_of children.now)) }
+    ensures marks { IfOk result (λ x. x.2 ≡ explicit_version.marks (window_of children.now)) }
+    ensures grows { tries.old ≤ tries.new }
+    ensures count { tries.new ≤ tries.old + (8 * length (window_of children.now) - 8) }
+    ensures few_tries { tries.new ≤ tries.old + 1 }
+    ensures next { IfOk result (λ x. IsNext (count_of children.now) 0 x.0 (length (window_of children.now)) (length (place_at (window_of children.now) x.0)) x.1) }
+    ensures least { IfOk result (λ x. AddsAtLeast (option_heads (λ _. 1) (option_view (λ v. v.0) x.1)) tries.old tries.new) }
+{
+    let place = children.at(0);
+    if place.bytes().is_empty() {
+        return Ok((0, None, true));
+    }
+    let any = place.any_loose().map_err(|e| e.convert())?;
+    match any.header() {
+        Header {
+            class: Class::ContextSpecific,
+            tag: Tag(0),
+            ..
+        } => {}
+        _ => return Ok((0, None, true)),
+    }
+    let (version, plain) = read_wrapped_version(tries, &place)?;
+    Ok((1, Some(version), plain))
+}

@@ -1,0 +1,9 @@
+use Rattle.std.proofs.Common.{◌≡◌, ◌<◌, ◌^◌, take}
+use Rattle.std.specs.Int.Digits.{number_from_digits}
+use Rattle.x509_der.proofs.look.number_of.Given as goal
+
+abbrev pub invariant-loop-octet : goal.invariant-loop-octet
+invariant-loop-octet l = record {
+  value : l.number ≡ number_from_digits 256 (take l.octet-index l.octets);
+  small : l.number < 2 ^ 32;
+}

@@ -1,0 +1,18 @@
+use Rattle.x509_der.specs.Reading.{element_of, loose}
+use Rattle.x509_der.specs.Leaves.{any_loose}
+use Rattle.x509_der.specs.Place.{at}
+use Rattle.x509_der.proofs.Looks.{behind_is, element_is}
+use Rattle.x509_der.proofs.place.Place.any_marked.Goals as goal
+
+pub returns-in-Ok-clause-reading : goal.returns-in-Ok-clause-reading
+unfolding any_loose
+returns-in-Ok-clause-reading c = rw (behind_is loose (at c.args.self.now) (element_of c.in-Ok.any) c.in-Ok.field-0-0.now c.args.self.now.octets c.in-Ok.ensures.reading) c.in-Ok.ensures.reading
+
+pub returns-in-Ok-clause-strictly : goal.returns-in-Ok-clause-strictly
+returns-in-Ok-clause-strictly c = rw (behind_is loose (at c.args.self.now) (element_of c.in-Ok.any) c.in-Ok.field-0-0.now c.args.self.now.octets c.in-Ok.ensures.reading) c.in-Ok.ensures.strictly
+
+pub returns-in-Ok-clause-there : goal.returns-in-Ok-clause-there
+returns-in-Ok-clause-there c = element_is loose (at c.args.self.now) (element_of c.in-Ok.any) c.in-Ok.field-0-0.now c.args.self.now.octets c.in-Ok.ensures.reading
+
+pub returns-in-Ok-clause-sizes : goal.returns-in-Ok-clause-sizes
+returns-in-Ok-clause-sizes c = rw (behind_is loose (at c.args.self.now) (element_of c.in-Ok.any) c.in-Ok.field-0-0.now c.args.self.now.octets c.in-Ok.ensures.reading) c.in-Ok.ensures.sizes

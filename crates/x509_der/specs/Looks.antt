@@ -1,0 +1,91 @@
+-- What one look at the bytes of a place tells the readers of both forms, and the places of a window.
+use Rattle.std.specs.Prelude.{◌≡◌, ℕ, zero, suc, ◌+◌, ◌*◌, ◌≤◌, ◌-◌, Bool, true, false, List, Option, Some, None, Result, Ok, Err, if◌then◌else◌}
+use Rattle.x509_der.specs.declared.error.BerError.{BerError}
+use Rattle.x509_der.specs.declared.error.Err.{Err as Refusal}
+use Rattle.x509_der.specs.declared.error.BerError.TheVariants as kinds
+use Rattle.x509_der.specs.declared.error.Err.TheVariants.{Incomplete, Error}
+use Rattle.x509_der.specs.declared.header.Header.{Header}
+use Rattle.x509_der.specs.declared.look.Form.{Form}
+use Rattle.x509_der.specs.declared.look.Form.TheVariants.{Strict, Loose}
+use Rattle.x509_der.specs.declared.look.HeaderError.{HeaderError}
+use Rattle.x509_der.specs.declared.look.HeaderError.TheVariants as failures
+use Rattle.x509_der.specs.declared.look.Seen.{Seen}
+use Rattle.x509_der.specs.Reading.{Reading, Element, class_in, constructed_in, element_at, invalid_length, loose}
+
+-- whether the form takes a length that stands in the fewest octets, or in more
+abbrev pub takes : Form → Bool → Bool
+takes Strict fewest = fewest
+takes Loose fewest = true
+
+-- the refusal of octets that are no header
+abbrev pub refusal_of : HeaderError → Refusal BerError
+refusal_of failures.CutShort = Incomplete
+refusal_of failures.InvalidTag = Error kinds.InvalidTag
+refusal_of failures.InvalidLength = Error kinds.InvalidLength
+
+-- what octets spelled is what reading gives
+abbrev pub Spelled : {X Y : Type 0} → (X → Y) → Result X HeaderError → Result Y (Refusal BerError) → Type 0
+Spelled view (Ok x) read = read ≡ Ok (view x)
+Spelled view (Err why) read = read ≡ Err (refusal_of why)
+
+-- what was seen once, for a reader of this form
+abbrev pub wanted : {X Y : Type 0} → (X → Y) → (X → Bool) → Form → Result X HeaderError → Result Y (Refusal BerError)
+wanted view fewest form (Ok x) = if takes form (fewest x) then Ok (view x) else invalid_length
+wanted view fewest form (Err why) = Err (refusal_of why)
+
+-- the header that these octets spell
+abbrev pub header_of : Seen → Header
+header_of s = record { class = class_in s.octet; constructed = constructed_in s.octet; tag = s.tag; length = s.length }
+
+-- what a look found: a header, or why none
+abbrev pub found_or : Bool → Seen → HeaderError → Result Seen HeaderError
+found_or true seen why = Ok seen
+found_or false seen why = Err why
+
+-- ---- places
+
+abbrev pub rest_or : List ℕ → Reading Element → List ℕ
+rest_or bytes (Ok x) = x.0
+rest_or bytes (Err e) = bytes
+
+-- the bytes behind the first element, its length in any octets; where no element stands, the bytes themselves
+unfoldable pub behind : List ℕ → List ℕ
+behind bytes = rest_or bytes (element_at loose bytes)
+
+abbrev pub is_some_reading : Reading Element → Bool
+is_some_reading (Ok x) = true
+is_some_reading (Err e) = false
+
+-- whether an element stands first, its length in any octets
+unfoldable pub is_element : List ℕ → Bool
+is_element bytes = is_some_reading (element_at loose bytes)
+
+-- the place behind this many elements of a window
+abbrev pub place_at : List ℕ → ℕ → List ℕ
+place_at window zero = window
+place_at window (suc n) = behind (place_at window n)
+
+-- ---- tries of a reader of a place that was looked at: one less for each bound, since the look has paid
+
+abbrev pub CountedBehind : {X F : Type 0} → ℕ → ℕ → ℕ → ℕ → Result X F → Type 0
+CountedBehind left old new n (Ok x) = new + 9 + 8 * left ≤ old + 8 * n
+CountedBehind left old new n (Err e) = new ≤ old + (8 * n - 8)
+
+-- the same of a field of children, where the value tells the next place
+abbrev pub CountedNext : {X F : Type 0} → (X → ℕ) → ℕ → ℕ → ℕ → Result X F → Type 0
+CountedNext left old new n (Ok x) = new + 9 + 8 * left x ≤ old + 8 * n
+CountedNext left old new n (Err e) = new ≤ old + (8 * n - 8)
+
+abbrev pub SoftBehindBy : {A : Type 0} → Option A → ℕ → ℕ → ℕ → ℕ → ℕ → ℕ → Type 0
+SoftBehindBy (Some a) k next left old new n = (next ≡ k + 1) × (new + 9 + 8 * left ≤ old + 8 * n)
+SoftBehindBy None k next left old new n = (next ≡ k) × (left ≡ n) × (new ≤ old + (8 * n - 8))
+
+-- a soft field: the next place where it stands, and no more than a refusal spends where it is absent
+abbrev pub SoftCountedBehind : {X A F : Type 0} → (X → Option A) → ℕ → (X → ℕ) → (X → ℕ) → ℕ → ℕ → ℕ → Result X F → Type 0
+SoftCountedBehind value k next left old new n (Ok x) = SoftBehindBy (value x) k (next x) (left x) old new n
+SoftCountedBehind value k next left old new n (Err e) = new ≤ old + (8 * n - 8)
+
+-- the next place behind a field that may be absent
+abbrev pub IsNext : {A : Type 0} → ℕ → ℕ → ℕ → ℕ → ℕ → Option A → Type 0
+IsNext count k next n left (Some a) = (next ≡ k + 1) × (k + 1 ≤ count) × (left + 2 ≤ n)
+IsNext count k next n left None = (next ≡ k) × (left ≡ n)

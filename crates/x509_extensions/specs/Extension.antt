@@ -1,0 +1,77 @@
+-- One extension (RFC 5280, 4.2): its value, its grammar at both depths, its heads, its laws.
+use Rattle.std.specs.Prelude.{ℕ, List, Bool, false, length, unwrap_or, Ok, ◌+◌, true, sum_by, if◌then◌else◌}
+use Rattle.x509_der.specs.declared.error.Err.TheVariants.{Error}
+use Rattle.x509_der.specs.Plan.{◌>>=◌, give, soft, universal, or_refuse, mapped}
+use Rattle.x509_der.specs.Leaves.{oid, bool_loose, octets}
+use Rattle.x509_fields.specs.declared.error.X509Error.TheVariants as x509
+use Rattle.x509_fields.specs.Fields.{Field, lifted, sequence, as_x509_renames}
+use Rattle.x509_extensions.specs.Parsed.{Unparsed, Parsed, parsed_of, parsed_value}
+use Rattle.x509_der.specs.Laws.{IsMarkedElement}
+use Rattle.x509_der.proofs.Marking.{marked, mapped_marked}
+use Rattle.x509_fields.specs.Errors.{is_x509_memory}
+use Rattle.x509_der.specs.Oid.{oid_bytes}
+use Rattle.x509_extensions.specs.declared.extension.X509Extension.{X509Extension}
+
+-- ---- the value
+
+-- the oid, whether a user must know it, the bytes of its value, and what they say
+pub record Extension : Type 0 where
+  pub oid : List ℕ
+  pub critical : Bool
+  pub value : List ℕ
+  pub parsed : Parsed
+
+abbrev pub extension_of : X509Extension → Extension
+extension_of e = record { oid = oid_bytes e.oid; critical = e.critical; value = e.value.now; parsed = parsed_of e.parsed_extension }
+
+-- ---- depth
+
+abbrev pub with_parsed : Extension → Parsed → Extension
+with_parsed e p = record { oid = e.oid; critical = e.critical; value = e.value; parsed = p }
+
+-- Deep: what the value says stands beside it. Shallow: values are not looked at.
+abbrev pub at_depth : Bool → Extension → Extension
+at_depth true e = with_parsed e (parsed_value e.oid e.value)
+at_depth false e = with_parsed e Unparsed
+
+-- ---- the grammar
+
+-- Extension ::= SEQUENCE { extnID OBJECT IDENTIFIER, critical BOOLEAN DEFAULT FALSE, extnValue OCTET STRING }.
+-- The BOOLEAN is read by the basic rules, as many writers spell it so; plainly it is a BOOLEAN.
+unfoldable pub envelope_fields : Field Extension
+envelope_fields = sequence do
+  oid ← lifted oid
+  critical ← soft (universal 1) (lifted bool_loose)
+  value ← lifted octets
+  give (record { oid = oid; critical = unwrap_or critical false; value = value; parsed = Unparsed })
+
+unfoldable pub envelope : Field Extension
+envelope = or_refuse (Error x509.InvalidExtensions) envelope_fields
+
+-- the envelope, with what the value in it says where that is wanted: it refuses nothing
+unfoldable pub extension : Bool → Field Extension
+extension deep = mapped envelope (λ e. Ok (at_depth deep e))
+
+-- ---- sizes
+
+-- the lengths of the values of these extensions
+abbrev pub value_bytes : List Extension → ℕ
+value_bytes xs = sum_by (λ e. length e.value) xs
+
+-- its own head, the identifier's, the value's, and that of the mark where it is critical; heads inside the value count none
+abbrev pub extension_heads : Extension → ℕ
+extension_heads e = 3 + (if e.critical then 1 else 0)
+
+-- ---- laws
+
+pub envelope_fields_laws : IsMarkedElement is_x509_memory envelope_fields
+unfolding envelope_fields
+envelope_fields_laws = search (marked, as_x509_renames) depth 60
+
+pub envelope_laws : IsMarkedElement is_x509_memory envelope
+unfolding envelope
+envelope_laws = search (marked, envelope_fields_laws)
+
+pub extension_laws : (deep : Bool) → IsMarkedElement is_x509_memory (extension deep)
+unfolding extension
+extension_laws deep = mapped_marked is_x509_memory envelope (λ e. Ok (at_depth deep e)) envelope_laws (λ e r never. absurd cc)

@@ -1,0 +1,166 @@
+//! Readers of extensions in their SEQUENCE, and of those that close a structure.
+
+ghost use Rattle.std.specs.Prelude.{◌≡◌, ◌<◌, ◌≤◌, ◌+◌, ◌-◌, ◌*◌, [], true, false, IfOk, map, min, length, sum_by};
+ghost use Rattle.x509_der.specs.Place.{at};
+ghost use Rattle.x509_der.specs.Plan.{run, to_end, marks_of_members};
+ghost use Rattle.x509_der.specs.Primitives.{is_constructed};
+ghost use Rattle.x509_der.specs.Promises.{Answers, TriesBounded, ended_early};
+ghost use Rattle.x509_der.specs.Reading.{Gives, AddsAtLeast, strict};
+ghost use Rattle.x509_fields.specs.declared.error.X509Error.TheVariants as x509;
+ghost use Rattle.x509_fields.specs.Errors.{is_x509_memory};
+ghost use Rattle.x509_extensions.specs.Extension.{extension_of, value_bytes, extension_heads, extension};
+ghost use Rattle.x509_extensions.specs.ExtensionList.{extensions_heads, wrapped_heads, extensions, closes, wrapper_header, wrapped_extensions};
+
+use crate::extension::X509Extension;
+use crate::parser::X509ExtensionParser;
+use std::alloc::Global;
+use x509_der::{Class, Err, ErrorKind, Header, Place, Sequence, Tries, read_sequence};
+use x509_fields::X509Error;
+
+impl X509ExtensionParser {
+    /// Reads a SEQUENCE that extensions fill (RFC 5280, section 4.1.2.9).
+    ///
+    /// # Errors
+    ///
+    /// Those of the SEQUENCE; `NomError(Eof)` where what stands in it is no extension; `Failure(OutOfMemory)`.
+    #[tactic(auto, unfolding(crate::specs::ExtensionList::extensions), using(x509_der::proofs::Marking::marks_of_readers))]
+    pub fn read_list<'a>(
+        &self,
+        alloc: Global,
+        tries: &mut Tries,
+        i: &'a [u8],
+    ) -> Result<(&'a [u8], Sequence<X509Extension<'a>>, bool), Err<X509Error>>
+        ensures marks { IfOk result (λ x. x.2 ≡ (extensions self.now.deep_parse_extensions).marks i.now) }
+        ensures reads { Answers is_x509_memory true (λ x. (x.0.now, map extension_of x.1)) result ((extensions self.now.deep_parse_extensions).read i.now) }
+        ensures tries { TriesBounded strict (is_constructed 16) extensions_heads (λ x. (x.0.now, map extension_of x.1)) i.now tries.old tries.new result }
+        ensures shallow { self.now.deep_parse_extensions ≡ false → IfOk result (λ x. tries.new + 8 + 8 * value_bytes (map extension_of x.1) + 8 * length x.0.now ≤ tries.old + 8 * length i.now) }
+    {
+        let (rest, contents) = read_sequence(tries, i).map_err(|e| e.convert())?;
+        let (list, plain) = self.read_to_end(alloc, tries, contents)?;
+        Ok((rest, list, plain))
+    }
+
+    /// Reads the extensions that close a structure: none where nothing is left, else a wrapper with this tag number and
+    /// the SEQUENCE of extensions, to the end of the bytes.
+    ///
+    /// Of the wrapper the number alone is looked at, as other readers do: its class is free, and so is the length that it
+    /// says, in the fewest octets, which the end of the structure makes superfluous.
+    ///
+    /// # Errors
+    ///
+    /// `InvalidExtensions` for the wrapper's header; `NomError(Eof)` where the extensions end before the bytes do; else
+    /// those of [`X509ExtensionParser::read_list`].
+    #[tactic(auto, unfolding(crate::specs::ExtensionList::wrapped_extensions, crate::specs::ExtensionList::wrapped), using(x509_der::proofs::Marking::marks_of_readers))]
+    pub fn read_wrapped<'a>(
+        &self,
+        alloc: Global,
+        tries: &mut Tries,
+        number: u32,
+        i: &'a [u8],
+    ) -> Result<(Sequence<X509Extension<'a>>, bool), Err<X509Error>>
+        ensures reads { Answers is_x509_memory true (λ x. ([], map extension_of x.0)) result ((wrapped_extensions number self.now.deep_parse_extensions).read i.now) }
+        ensures marks { IfOk result (λ x. x.1 ≡ (wrapped_extensions number self.now.deep_parse_extensions).marks i.now) }
+        ensures grows { tries.old ≤ tries.new }
+        ensures count { tries.new ≤ tries.old + 8 * length i.now }
+        ensures least { IfOk result (λ x. AddsAtLeast (wrapped_heads (map extension_of x.0)) tries.old tries.new) }
+        ensures shallow { self.now.deep_parse_extensions ≡ false → IfOk result (λ x. tries.new + 8 * value_bytes (map extension_of x.0) ≤ tries.old + 8 * length i.now) }
+    {
+        let place = Place::look(tries, i);
+        self.read_wrapped_at(alloc, tries, number, &place)
+    }
+
+    /// The same at a place that was looked at.
+    #[tactic(auto, unfolding(crate::specs::ExtensionList::wrapped_extensions, crate::specs::ExtensionList::wrapped), using(x509_der::proofs::Marking::marks_of_readers))]
+    pub fn read_wrapped_at<'a>(
+        &self,
+        alloc: Global,
+        tries: &mut Tries,
+        number: u32,
+        place: &Place<'a>,
+    ) -> Result<(Sequence<X509Extension<'a>>, bool), Err<X509Error>>
+        ensures reads { Answers is_x509_memory true (λ x. ([], map extension_of x.0)) result ((wrapped_extensions number self.now.deep_parse_extensions).read (at place.now)) }
+        ensures marks { IfOk result (λ x. x.1 ≡ (wrapped_extensions number self.now.deep_parse_extensions).marks (at place.now)) }
+        ensures grows { tries.old ≤ tries.new }
+        ensures count { tries.new ≤ tries.old + (8 * length (at place.now) - 8) }
+        ensures least { IfOk result (λ x. AddsAtLeast (wrapped_heads (map extension_of x.0) - min 1 (length (at place.now))) tries.old tries.new) }
+        ensures shallow { self.now.deep_parse_extensions ≡ false → IfOk result (λ x. tries.new + 8 * value_bytes (map extension_of x.0) + min 1 (length (at place.now)) ≤ tries.old + 8 * length (at place.now)) }
+    {
+        if place.bytes().is_empty() {
+            return Ok((Sequence::new(alloc), true));
+        }
+        let (inner, header) = wrapper_of(place, number)?;
+        let closes = closes(number, header, inner);
+        let (rest, list, plain) = self.read_list(alloc, tries, inner)?;
+        if !rest.is_empty() {
+            return Err(Err::Error(X509Error::NomError(ErrorKind::Eof)));
+        }
+        Ok((list, closes & plain))
+    }
+
+    // Extensions up to the end of the bytes.
+    fn read_to_end<'a>(
+        &self,
+        alloc: Global,
+        tries: &mut Tries,
+        i: &'a [u8],
+    ) -> Result<(Sequence<X509Extension<'a>>, bool), Err<X509Error>>
+        ensures marks { IfOk result (λ x. x.1 ≡ marks_of_members (extension self.now.deep_parse_extensions) i.now) }
+        ensures reads { Answers is_x509_memory true (λ x. ([], map extension_of x.0)) result ((to_end (ended_early x509.NomError) (run (extension self.now.deep_parse_extensions))).read i.now) }
+        ensures grows { tries.old ≤ tries.new }
+        ensures count { tries.new ≤ tries.old + 8 * length i.now }
+        ensures least { IfOk result (λ x. AddsAtLeast (sum_by extension_heads (map extension_of x.0)) tries.old tries.new) }
+        ensures shallow { self.now.deep_parse_extensions ≡ false → IfOk result (λ x. tries.new + 8 * value_bytes (map extension_of x.0) ≤ tries.old + 8 * length i.now) }
+    {
+        let mut list = Sequence::new(alloc);
+        let mut rest = i;
+        let mut plain = true;
+        while !rest.is_empty() {
+            match self.read_marked(alloc, tries, rest) {
+                Ok((after, extension, marked)) => {
+                    if list.push(extension).is_err() {
+                        return Err(Err::out_of_memory());
+                    }
+                    plain &= marked;
+                    rest = after;
+                }
+                Err(e) => {
+                    if e.is_out_of_memory() {
+                        return Err(e);
+                    }
+                    return Err(Err::Error(X509Error::NomError(ErrorKind::Eof)));
+                }
+            }
+        }
+        Ok((list, plain))
+    }
+}
+
+// Whether the wrapper is one, and ends where the structure does.
+#[inline(always)]
+fn closes(number: u32, header: Header, left: &[u8]) -> bool
+    ensures { result ≡ closes number header left.now }
+{
+    match header {
+        Header {
+            class: Class::ContextSpecific,
+            constructed: true,
+            tag,
+            length,
+        } => tag.0 == number && left.len() == length as usize,
+        _ => false,
+    }
+}
+
+// What stands behind a header with this tag number, whatever its class and its length.
+#[inline(always)]
+#[tactic(auto, unfolding(crate::specs::ExtensionList::wrapper_header, x509_der::specs::Leaves::any_header))]
+fn wrapper_of<'a>(place: &Place<'a>, number: u32) -> Result<(&'a [u8], Header), Err<X509Error>>
+    ensures reads { Gives (λ x. (x.0.now, x.1)) result ((wrapper_header number).read (at place.now)) }
+    ensures marks { (wrapper_header number).marks (at place.now) ≡ true }
+    ensures sizes { IfOk result (λ x. length x.0.now + 2 ≤ length (at place.now)) }
+{
+    match place.header() {
+        Ok((inner, header)) if header.tag.0 == number => Ok((inner, header)),
+        _ => Err(Err::Error(X509Error::InvalidExtensions)),
+    }
+}

@@ -1,0 +1,192 @@
+//! Object identifiers, and what they are called.
+
+ghost use Rattle.std.specs.Prelude.{◌≡◌, map};
+ghost use Rattle.std.specs.Option.{option_copied};
+ghost use Rattle.x509_objects.specs.Objects.{name_in, registered_name};
+
+#[cfg(test)]
+mod tests;
+
+/// commonName, 2.5.4.3 (X.520): the contents of the identifier.
+pub const OID_X509_COMMON_NAME: &[u8] = &[0x55, 0x04, 0x03];
+
+/// countryName, 2.5.4.6 (X.520): the contents of the identifier.
+pub const OID_X509_COUNTRY_NAME: &[u8] = &[0x55, 0x04, 0x06];
+
+/// localityName, 2.5.4.7 (X.520): the contents of the identifier.
+pub const OID_X509_LOCALITY_NAME: &[u8] = &[0x55, 0x04, 0x07];
+
+/// stateOrProvinceName, 2.5.4.8 (X.520): the contents of the identifier.
+pub const OID_X509_STATE_OR_PROVINCE_NAME: &[u8] = &[0x55, 0x04, 0x08];
+
+/// organizationName, 2.5.4.10 (X.520): the contents of the identifier.
+pub const OID_X509_ORGANIZATION_NAME: &[u8] = &[0x55, 0x04, 0x0a];
+
+/// organizationalUnit, 2.5.4.11 (X.520): the contents of the identifier.
+pub const OID_X509_ORGANIZATIONAL_UNIT: &[u8] = &[0x55, 0x04, 0x0b];
+
+/// domainComponent, 0.9.2342.19200300.100.1.25 (RFC 4519): the contents of the identifier.
+pub const OID_DOMAIN_COMPONENT: &[u8] = &[
+    0x09, 0x92, 0x26, 0x89, 0x93, 0xf2, 0x2c, 0x64, 0x01, 0x19,
+];
+
+/// emailAddress, 1.2.840.113549.1.9.1 (RFC 2985): the contents of the identifier.
+pub const OID_PKCS9_EMAIL_ADDRESS: &[u8] = &[0x2a, 0x86, 0x48, 0x86, 0xf7, 0x0d, 0x01, 0x09, 0x01];
+
+/// challengePassword, 1.2.840.113549.1.9.7 (RFC 2985): the contents of the identifier.
+pub const OID_PKCS9_CHALLENGE_PASSWORD: &[u8] = &[
+    0x2a, 0x86, 0x48, 0x86, 0xf7, 0x0d, 0x01, 0x09, 0x07,
+];
+
+/// extensionRequest, 1.2.840.113549.1.9.14 (RFC 2985): the contents of the identifier.
+pub const OID_PKCS9_EXTENSION_REQUEST: &[u8] = &[
+    0x2a, 0x86, 0x48, 0x86, 0xf7, 0x0d, 0x01, 0x09, 0x0e,
+];
+
+/// rsaEncryption, 1.2.840.113549.1.1.1 (RFC 8017): the contents of the identifier.
+pub const OID_PKCS1_RSAENCRYPTION: &[u8] = &[0x2a, 0x86, 0x48, 0x86, 0xf7, 0x0d, 0x01, 0x01, 0x01];
+
+/// sha1WithRSA, 1.2.840.113549.1.1.5 (RFC 8017): the contents of the identifier.
+pub const OID_PKCS1_SHA1WITHRSA: &[u8] = &[0x2a, 0x86, 0x48, 0x86, 0xf7, 0x0d, 0x01, 0x01, 0x05];
+
+/// id-RSASSA-PSS, 1.2.840.113549.1.1.10 (RFC 8017): the contents of the identifier.
+pub const OID_PKCS1_RSASSAPSS: &[u8] = &[0x2a, 0x86, 0x48, 0x86, 0xf7, 0x0d, 0x01, 0x01, 0x0a];
+
+/// sha256WithRSA, 1.2.840.113549.1.1.11 (RFC 8017): the contents of the identifier.
+pub const OID_PKCS1_SHA256WITHRSA: &[u8] = &[0x2a, 0x86, 0x48, 0x86, 0xf7, 0x0d, 0x01, 0x01, 0x0b];
+
+/// id-ecPublicKey, 1.2.840.10045.2.1 (RFC 5480): the contents of the identifier.
+pub const OID_KEY_TYPE_EC_PUBLIC_KEY: &[u8] = &[0x2a, 0x86, 0x48, 0xce, 0x3d, 0x02, 0x01];
+
+/// ecdsaWithSHA256, 1.2.840.10045.4.3.2 (RFC 5758): the contents of the identifier.
+pub const OID_SIG_ECDSA_WITH_SHA256: &[u8] = &[0x2a, 0x86, 0x48, 0xce, 0x3d, 0x04, 0x03, 0x02];
+
+/// id-dsa, 1.2.840.10040.4.1 (RFC 3279): the contents of the identifier.
+pub const OID_KEY_TYPE_DSA: &[u8] = &[0x2a, 0x86, 0x48, 0xce, 0x38, 0x04, 0x01];
+
+/// gostR3410-2001, 1.2.643.2.2.19 (RFC 4491): the contents of the identifier.
+pub const OID_GOST_R3410_2001: &[u8] = &[0x2a, 0x85, 0x03, 0x02, 0x02, 0x13];
+
+/// gostR3410-2012-256, 1.2.643.7.1.1.1.1 (RFC 9215): the contents of the identifier.
+pub const OID_KEY_TYPE_GOST_R3410_2012_256: &[u8] = &[
+    0x2a, 0x85, 0x03, 0x07, 0x01, 0x01, 0x01, 0x01,
+];
+
+/// gostR3410-2012-512, 1.2.643.7.1.1.1.2 (RFC 9215): the contents of the identifier.
+pub const OID_KEY_TYPE_GOST_R3410_2012_512: &[u8] = &[
+    0x2a, 0x85, 0x03, 0x07, 0x01, 0x01, 0x01, 0x02,
+];
+
+/// ed25519, 1.3.101.112 (RFC 8410): the contents of the identifier.
+pub const OID_SIG_ED25519: &[u8] = &[0x2b, 0x65, 0x70];
+
+/// sha1, 1.3.14.3.2.26 (RFC 3279): the contents of the identifier.
+pub const OID_HASH_SHA1: &[u8] = &[0x2b, 0x0e, 0x03, 0x02, 0x1a];
+
+/// ocsp, 1.3.6.1.5.5.7.48.1 (RFC 5280, 4.2.2.1): the contents of the identifier.
+pub const OID_PKIX_ACCESS_DESCRIPTOR_OCSP: &[u8] = &[
+    0x2b, 0x06, 0x01, 0x05, 0x05, 0x07, 0x30, 0x01,
+];
+
+/// caIssuers, 1.3.6.1.5.5.7.48.2 (RFC 5280, 4.2.2.1): the contents of the identifier.
+pub const OID_PKIX_ACCESS_DESCRIPTOR_CA_ISSUERS: &[u8] = &[
+    0x2b, 0x06, 0x01, 0x05, 0x05, 0x07, 0x30, 0x02,
+];
+
+/// What is shown for an identifier: its abbreviation, else its short name.
+type Row = (&'static [u8], &'static str);
+
+const REGISTRY: [Row; 49] = [
+    (OID_X509_COMMON_NAME, "CN"),
+    (OID_X509_COUNTRY_NAME, "C"),
+    (OID_X509_LOCALITY_NAME, "L"),
+    (OID_X509_STATE_OR_PROVINCE_NAME, "ST"),
+    (OID_X509_ORGANIZATION_NAME, "O"),
+    (OID_X509_ORGANIZATIONAL_UNIT, "OU"),
+    (OID_DOMAIN_COMPONENT, "DC"),
+    (OID_PKCS9_EMAIL_ADDRESS, "Email"),
+    (OID_PKCS9_CHALLENGE_PASSWORD, "challengePassword"),
+    (OID_PKCS9_EXTENSION_REQUEST, "extensionRequest"),
+    (OID_PKCS1_RSAENCRYPTION, "rsaEncryption"),
+    (OID_PKCS1_SHA1WITHRSA, "sha1WithRSA"),
+    (
+        &[0x2a, 0x86, 0x48, 0x86, 0xf7, 0x0d, 0x01, 0x01, 0x07],
+        "id-RSAES-OAEP",
+    ),
+    (
+        &[0x2a, 0x86, 0x48, 0x86, 0xf7, 0x0d, 0x01, 0x01, 0x08],
+        "id-mgf1",
+    ),
+    (
+        &[0x2a, 0x86, 0x48, 0x86, 0xf7, 0x0d, 0x01, 0x01, 0x09],
+        "id-pSpecified",
+    ),
+    (OID_PKCS1_RSASSAPSS, "id-RSASSA-PSS"),
+    (OID_PKCS1_SHA256WITHRSA, "sha256WithRSA"),
+    (OID_KEY_TYPE_EC_PUBLIC_KEY, "id-ecPublicKey"),
+    (OID_SIG_ECDSA_WITH_SHA256, "ecdsaWithSHA256"),
+    (OID_KEY_TYPE_DSA, "id-dsa"),
+    (OID_GOST_R3410_2001, "gostR3410-2001"),
+    (OID_KEY_TYPE_GOST_R3410_2012_256, "gostR3410-2012-256"),
+    (OID_KEY_TYPE_GOST_R3410_2012_512, "gostR3410-2012-512"),
+    (OID_SIG_ED25519, "ed25519"),
+    (OID_HASH_SHA1, "sha1"),
+    (OID_PKIX_ACCESS_DESCRIPTOR_OCSP, "ocsp"),
+    (OID_PKIX_ACCESS_DESCRIPTOR_CA_ISSUERS, "caIssuers"),
+    (&[0x55, 0x1d, 0x0e], "subjectKeyIdentifier"),
+    (&[0x55, 0x1d, 0x0f], "keyUsage"),
+    (&[0x55, 0x1d, 0x11], "subjectAltName"),
+    (&[0x55, 0x1d, 0x12], "issuerAltName"),
+    (&[0x55, 0x1d, 0x13], "basicConstraints"),
+    (&[0x55, 0x1d, 0x14], "cRLNumber"),
+    (&[0x55, 0x1d, 0x15], "reasonCode"),
+    (&[0x55, 0x1d, 0x18], "invalidityDate"),
+    (&[0x55, 0x1d, 0x1c], "issuingDistributionPoint"),
+    (&[0x55, 0x1d, 0x1e], "nameConstraints"),
+    (&[0x55, 0x1d, 0x1f], "cRLDistributionPoints"),
+    (&[0x55, 0x1d, 0x20], "certificatePolicies"),
+    (&[0x55, 0x1d, 0x21], "policyMappings"),
+    (&[0x55, 0x1d, 0x23], "authorityKeyIdentifier"),
+    (&[0x55, 0x1d, 0x24], "policyConstraints"),
+    (&[0x55, 0x1d, 0x25], "extendedKeyUsage"),
+    (&[0x55, 0x1d, 0x36], "inhibitAnyPolicy"),
+    (
+        &[0x2b, 0x06, 0x01, 0x05, 0x05, 0x07, 0x01, 0x01],
+        "authorityInfoAccess",
+    ),
+    (
+        &[0x2b, 0x06, 0x01, 0x05, 0x05, 0x07, 0x01, 0x0b],
+        "subjectInfoAccess",
+    ),
+    (
+        &[0x2b, 0x06, 0x01, 0x04, 0x01, 0xd6, 0x79, 0x02, 0x04, 0x02],
+        "ctSCTList",
+    ),
+    (
+        &[0x60, 0x86, 0x48, 0x01, 0x86, 0xf8, 0x42, 0x01, 0x01],
+        "nsCertType",
+    ),
+    (
+        &[0x60, 0x86, 0x48, 0x01, 0x86, 0xf8, 0x42, 0x01, 0x0d],
+        "nsComment",
+    ),
+];
+
+/// The abbreviation of an identifier with these contents, else its short name.
+#[tactic(auto, unfolding(crate::specs::Objects::registered_name))]
+pub fn abbreviation(octets: &[u8]) -> Option<&'static str>
+    ensures { option_copied result ≡ registered_name octets.now }
+{
+    find_name(&REGISTRY, octets)
+}
+
+fn find_name(rows: &[(&'static [u8], &'static str)], octets: &[u8]) -> Option<&'static str>
+    ensures { option_copied result ≡ name_in (map (λ r. (r.0.now, r.1.now)) rows.now) octets.now }
+{
+    for (row_octets, name) in rows {
+        if *row_octets == octets {
+            return Some(*name);
+        }
+    }
+    None
+}

@@ -1,0 +1,84 @@
+//! Inputs of many reads.
+
+use super::CERTIFICATE;
+use super::certificates::LINES;
+use super::memory::{MemorySink, MemorySource};
+use crate::parts::{Sink, Source};
+use crate::runs::run;
+use std::alloc::Global;
+use std::test::Fail;
+
+/// This beginning, that many bytes, and two more.
+fn filled(alloc: Global, front: &[u8], length: usize) -> Result<Vec<u8>, Fail> {
+    let mut bytes = Vec::new(alloc);
+    bytes.extend_from_slice(front)?;
+    let contents = vec![in alloc; 0xaa_u8; length]?;
+    bytes.extend_from_slice(contents.as_slice())?;
+    bytes.extend_from_slice(b"\x05\x00")?;
+    Ok(bytes)
+}
+
+/// The header of an OCTET STRING, how many bytes stand behind it but for the last two, and what is written.
+const LONG: [(&[u8], usize, u8, &str); 5] = [
+    (
+        b"\x04\x82\xFF\xFF",
+        65_533,
+        0,
+        "universal primitive tag=4 length=65535 rest=0\n",
+    ),
+    (
+        b"\x04\x83\x01\x11\x70",
+        70_000,
+        0,
+        "universal primitive tag=4 length=70000 rest=2\n",
+    ),
+    (
+        b"\x04\x83\x10\xC8\xE0",
+        1_100_000,
+        0,
+        "universal primitive tag=4 length=1100000 rest=2\n",
+    ),
+    (
+        b"\x04\x00",
+        1_100_000,
+        0,
+        "universal primitive tag=4 length=0 rest=1100002\n",
+    ),
+    // one byte too few
+    (
+        b"\x04\x83\x10\xC8\xE3",
+        1_100_000,
+        1,
+        "refused: incomplete\n",
+    ),
+];
+
+#[test]
+fn long_elements(rt: HostRuntime) -> Result<(), Fail> {
+    for (front, length, status, text) in LONG {
+        let input = filled(rt.alloc(), front, length)?;
+        let mut from = MemorySource::new(input.as_slice(), 1000, 4096);
+        let mut to = MemorySink::new(Vec::new(rt.alloc()), 1000, 1000, 1000);
+        let answered = run(rt.alloc(), "der", &mut from, &mut to);
+        assert_eq!(rt; to.bytes(), text.as_bytes());
+        assert_eq!(rt; answered, status);
+        assert!(rt; from.rest().is_empty());
+        assert!(rt; !from.failed() && !to.failed());
+    }
+    Ok(())
+}
+
+#[test]
+fn long_signature(rt: HostRuntime) -> Result<(), Fail> {
+    // 56 bytes that are signed, 5 of the algorithm, and a signature of 70,000 bytes
+    let mut front = Vec::new(rt.alloc());
+    front.extend_from_slice(b"\x30\x83\x01\x11\xB3")?;
+    front.extend_from_slice(&CERTIFICATE[2..63])?;
+    front.extend_from_slice(b"\x03\x83\x01\x11\x71\x00")?;
+    let input = filled(rt.alloc(), front.as_slice(), 69_998)?;
+    let mut from = MemorySource::new(input.as_slice(), 1000, 4096);
+    let mut to = MemorySink::new(Vec::new(rt.alloc()), 1000, 1000, 1000);
+    assert_eq!(rt; run(rt.alloc(), "cert", &mut from, &mut to), 0);
+    assert_eq!(rt; to.bytes(), LINES.as_bytes());
+    Ok(())
+}

@@ -1,0 +1,3 @@
+pub mod RealDates
+pub mod Instants
+pub mod Spellings

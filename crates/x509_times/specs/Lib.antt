@@ -1,0 +1,5 @@
+pub mod Moments
+pub mod Spelling
+pub mod Octets
+pub mod TimeText
+pub mod OffsetDateTimes

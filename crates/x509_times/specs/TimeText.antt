@@ -1,0 +1,31 @@
+-- A time as text.
+use Rattle.std.specs.Prelude.{ℕ, ◌+◌, ◌/◌, ◌%◌, List, [], ◌∷◌, ◌++◌, nat_lt, ◌==◌, if◌then◌else◌, codes, ℤ, unsigned_abs}
+use Rattle.std.specs.Fmt.{signed_decimal}
+use Rattle.std.specs.Int.{is_negative}
+use Rattle.x509_times.specs.Moments.{Moment}
+use Rattle.x509_times.specs.Spelling.{two_digits}
+
+-- right in two places
+unfoldable pub in_two_places : ℕ → List ℕ
+in_two_places n = if nat_lt n 10 then codes " " ++ (48 + n) ∷ [] else two_digits n
+
+unfoldable pub month_name : ℕ → List ℕ
+month_name m =
+    if m == 1 then codes "Jan" else (if m == 2 then codes "Feb" else (if m == 3 then codes "Mar" else (if m == 4 then codes "Apr"
+    else (if m == 5 then codes "May" else (if m == 6 then codes "Jun" else (if m == 7 then codes "Jul" else (if m == 8 then codes "Aug"
+    else (if m == 9 then codes "Sep" else (if m == 10 then codes "Oct" else (if m == 11 then codes "Nov" else codes "Dec"))))))))))
+
+-- hh:mm:ss
+unfoldable pub clock_text : ℕ → ℕ → ℕ → List ℕ
+clock_text hour minute second = two_digits hour ++ codes ":" ++ two_digits minute ++ codes ":" ++ two_digits second
+
+-- a sign and hh:mm
+unfoldable pub offset_text : ℤ → List ℕ
+offset_text minutes =
+    (if is_negative minutes then codes "-" else codes "+") ++ two_digits (unsigned_abs minutes / 60) ++ codes ":" ++ two_digits (unsigned_abs minutes % 60)
+
+-- the parts with spaces between them, as `Jan  1 00:00:00 1970 +00:00`; a fraction of a second is left out
+abbrev pub time_text : Moment → List ℕ
+time_text m =
+    month_name m.month ++ codes " " ++ in_two_places m.day ++ codes " " ++ clock_text m.hour m.minute m.second ++ codes " "
+    ++ signed_decimal m.year ++ codes " " ++ offset_text m.offset

@@ -1,0 +1,82 @@
+//! Civil date-times with an offset from UTC.
+
+ghost use Rattle.std.specs.Prelude.{◌≡◌, ◌↔◌, pos, IsSome, IfSome};
+ghost use Rattle.x509_times.specs.Moments.{IsOffset, instant, floor_seconds};
+
+use jiff::civil::DateTime;
+
+const NANOS_PER_MINUTE: i128 = 60_000_000_000;
+
+/// A date and time of day, and by how many minutes its clock is ahead of UTC.
+#[derive(Clone, Copy, Debug, PartialEq, Eq)]
+pub struct OffsetDateTime {
+    civil: DateTime,
+    offset_minutes: i16,
+    ghost in_day: { IsOffset offset_minutes },
+}
+
+impl OffsetDateTime {
+    ghost use Rattle.x509_times.specs.OffsetDateTimes.{civil_of, offset_of, moment_of};
+
+    /// The date-time of a clock that is that many minutes ahead of UTC; None where that is a day or more, either way.
+    pub fn new(civil: DateTime, offset_minutes: i16) -> Option<OffsetDateTime>
+        ensures some { IsSome result ↔ IsOffset offset_minutes }
+        ensures value { IfSome result (λ t. (civil_of t ≡ civil) × (offset_of t ≡ offset_minutes)) }
+    {
+        if offset_minutes < -1439 || offset_minutes > 1439 {
+            return None;
+        }
+        Some(OffsetDateTime::at(civil, offset_minutes))
+    }
+
+    /// The same, for an offset that is known to be less than a day.
+    pub fn at(civil: DateTime, offset_minutes: i16) -> OffsetDateTime
+        requires { IsOffset offset_minutes }
+        ensures civil { civil_of result ≡ civil }
+        ensures offset { offset_of result ≡ offset_minutes }
+    {
+        OffsetDateTime {
+            civil,
+            offset_minutes,
+        }
+    }
+
+    /// The date and time of day that the clock shows.
+    pub fn civil(&self) -> DateTime
+        ensures { result ≡ civil_of self.now }
+    {
+        self.civil
+    }
+
+    /// By how many minutes the clock is ahead of UTC.
+    pub fn offset_minutes(&self) -> i16
+        ensures value { result ≡ offset_of self.now }
+        ensures in_day { IsOffset result }
+    {
+        self.offset_minutes
+    }
+
+    /// The year that the clock shows; the one before 1 is 0, and the one before that -1.
+    pub fn year(&self) -> i16
+        ensures { result ≡ (moment_of self.now).year }
+    {
+        let date = self.civil.date();
+        date.year()
+    }
+
+    /// The nanoseconds since 1970-01-01T00:00:00Z.
+    pub fn instant_nanos(&self) -> i128
+        ensures { result ≡ instant (civil_of self.now) (offset_of self.now) }
+    {
+        let civil = self.civil.to_plain();
+        civil.to_nanosecond() - i128::from(self.offset_minutes) * NANOS_PER_MINUTE
+    }
+
+    /// The whole seconds since 1970-01-01T00:00:00Z, rounded down.
+    pub fn timestamp(&self) -> i64
+        ensures { result ≡ floor_seconds (instant (civil_of self.now) (offset_of self.now)) }
+    {
+        let civil = self.civil.to_plain();
+        civil.to_second() - i64::from(self.offset_minutes) * 60
+    }
+}
