@@ -6,7 +6,7 @@ use crate::prelude::*;
 use std::test::Fail;
 use x509_der::Err;
 
-const PLAINLY: [(&str, Sample, Field, &[u8]); 5] = [
+const PLAINLY: [(&str, Sample, Field, &[u8]); 6] = [
     ("without extensions", Sample::Plain, Field::Version, b""),
     ("with extensions", Sample::Extended, Field::IssuerUid, b""),
     (
@@ -14,6 +14,12 @@ const PLAINLY: [(&str, Sample, Field, &[u8]); 5] = [
         Sample::Plain,
         Field::Serial,
         b"\x02\x01\xFF",
+    ),
+    (
+        "a version with a zero in front",
+        Sample::Plain,
+        Field::Version,
+        b"\xA0\x04\x02\x02\x00\x02",
     ),
     (
         "a critical extension",
@@ -48,7 +54,7 @@ fn plain(rt: HostRuntime) -> Result<(), Fail> {
     Ok(())
 }
 
-const LOOSELY: [(&str, Sample, Field, &[u8]); 7] = [
+const LOOSELY: [(&str, Sample, Field, &[u8]); 9] = [
     (
         "the wrapper's length is another",
         Sample::Extended,
@@ -68,6 +74,18 @@ const LOOSELY: [(&str, Sample, Field, &[u8]); 7] = [
         b"\x02\x81\x01\x05",
     ),
     ("an empty serial", Sample::Plain, Field::Serial, b"\x02\x00"),
+    (
+        "a serial of context class",
+        Sample::Plain,
+        Field::Serial,
+        b"\x82\x01\x02",
+    ),
+    (
+        "parameters whose header is cut short",
+        Sample::Plain,
+        Field::Algorithm,
+        b"\x30\x04\x06\x01\x2A\x1F",
+    ),
     (
         "a serial with a zero too many",
         Sample::Plain,
