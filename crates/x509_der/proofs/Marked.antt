@@ -12,7 +12,7 @@ use Rattle.x509_der.specs.Primitives.{ValueOrBad, is_universal, is_context}
 use Rattle.x509_der.specs.declared.header.Class.{Class}
 use Rattle.x509_der.specs.declared.header.Class.TheVariants.{Universal, Application, ContextSpecific, Private}
 use Rattle.x509_der.specs.Leaves.{header, element, contents, value}
-use Rattle.x509_der.specs.Plan.{Outcome, got, Plan, Nothing, and_then, then_marks, nothing_left, give, ◌>>=◌, NoHead, PlainOrAbsent, IsOrAbsent, or_absent, soft, Tagged, any_tag, universal, context, has_tag, renamed, outcome_at, mapped, is_read, relaxed, plain_where, plain_when, PlainInside, marks_value, only_where, plain_only, strictly_if, end_with, to_end, Are, ArePlain, run_with, run_at, members, marks_at, marks_of_members, run, at_least_one, run1, marks_inside, container, trimmed, with_bytes, IsOr, PlainOr, read_or, marks_or, or_nothing, one_of, look, present, hard}
+use Rattle.x509_der.specs.Plan.{Outcome, got, Plan, Nothing, and_then, then_marks, nothing_left, give, ◌>>=◌, NoHead, PlainOrAbsent, IsOrAbsent, or_absent, soft, Tagged, any_tag, universal, context, has_tag, renamed, outcome_at, mapped, is_read, relaxed, plain_where, plain_when, PlainInside, marks_value, StandsInside, reads_inside, all_behind, only_where, plain_only, strictly_if, end_with, to_end, Are, ArePlain, run_with, run_at, members, marks_at, marks_of_members, run, at_least_one, run1, marks_inside, container, trimmed, with_bytes, IsOr, PlainOr, read_or, marks_or, or_nothing, one_of, look, present, hard}
 use Rattle.x509_der.specs.Laws.{IsBytes, Agrees, Within, Encloses, Local, OneElement, NeverMemory, IsElement, Anywhere, AtEnd, Marks, MarksAgain, IsMarked, Opens, differs, Away, Parted}
 use Rattle.x509_der.proofs.Results.{err, err_is, got_parts, cases_outcome, then_ok, was_ok, judged_ok, bytes_behind}
 use Rattle.x509_der.proofs.Agreement.{bytes_inside, nothing_where_refused}
@@ -295,6 +295,27 @@ value_told {F} {A} p ha hp value k = (
   ],
 )
 
+-- the mark of contents that are read to their end
+pub inside_told : {F A : Type 0} (p : Plan F A) → Agrees p → Marks AtEnd p → (contents : List ℕ) → IsBytes contents → ((reads_inside p contents ≡ true) → StandsInside p contents) × (StandsInside p contents → reads_inside p contents ≡ true)
+inside_told {F} {A} p ha hp contents k = (
+  λ m.
+      let t = was_read (p.read contents) (both_0 (is_read (p.read contents)) (marks_value p contents) m) in
+      let both_hold = sym (marks_then (p.read contents) (λ a t. p.marks contents && nothing_left t) t.0 t.1 t.2) ∙ both_1 (is_read (p.read contents)) (marks_value p contents) m in
+      let none = nothing t.1 (both_1 (p.marks contents) (nothing_left t.1) both_hold) in
+      (t.0, rw none at (hp.told contents t.0 t.1 k t.2 none (both_0 (p.marks contents) (nothing_left t.1) both_hold))),
+  λ h.
+      let e = ha.complete contents h.0 [] k (hp.is contents h.0 [] k h.1) in
+      both (is_read (p.read contents)) (marks_value p contents) (ap is_read e)
+      (marks_then (p.read contents) (λ a t. p.marks contents && nothing_left t) h.0 [] e ∙ both (p.marks contents) (nothing_left []) (hp.marked contents h.0 [] k h.1) refl),
+)
+
+pub all_behind_marks : {F : Type 0} (At : List ℕ → Type 0) → Marks At (all_behind {F = F})
+all_behind_marks {F} At = record {
+  is = λ place a next k h. h;
+  told = λ place a next k e at m. let t = got_parts F place a [] next e in (t.0, sym t.1);
+  marked = λ place a next k h. refl;
+}
+
 -- ---- runs
 
 bytes_next : {F A : Type 0} (p : Plan F A) → Local p → (place : List ℕ) (a : A) (next : List ℕ) → IsBytes place → p.read place ≡ got a next → IsBytes next
@@ -511,6 +532,9 @@ plain_where_again test p hl hp = record {
       let two = marks_then (p.read (bytes ++ other)) (λ a after. test a) a other (read_again p hl bytes a next other k e) in
       ap (λ b. b && then_marks (p.read (bytes ++ other)) (λ a after. test a)) (hp.again bytes a next other k e) ∙ ap (λ b. p.marks (bytes ++ next) && b) (two ∙ sym one);
 }
+
+pub plain_when_again : {F A : Type 0} (Holds : A → Type 0) (test : A → Bool) (p : Plan F A) → Local p → MarksAgain p → MarksAgain (plain_when Holds test p)
+plain_when_again Holds test p hl hp = record { again = (plain_where_again test p hl hp).again }
 
 -- ---- what a field begins with
 

@@ -7,16 +7,16 @@ use Rattle.x509_der.specs.declared.error.Err.TheVariants as refusals
 use Rattle.x509_der.specs.declared.look.Form.{Form}
 use Rattle.x509_der.specs.Reading.{Element, strict, loose}
 use Rattle.x509_der.specs.Primitives.{ValueOrBad, is_universal, is_context, is_primitive, is_constructed, is_explicit, is_implicit, truth_of, loose_truth_of, u32_of, unsigned_of, bits_of, text_of, not_der}
-use Rattle.x509_der.specs.Plan.{Outcome, Plan, got, then_marks, one_of, present, plainly, give, ◌>>=◌, soft, Tagged, universal, context, has_tag, renamed, mapped, relaxed, plain_where, end_with, to_end, run, run1, container, trimmed, with_bytes, or_nothing, hard}
+use Rattle.x509_der.specs.Plan.{Outcome, Plan, got, then_marks, one_of, present, plainly, give, ◌>>=◌, soft, Tagged, universal, context, has_tag, renamed, mapped, relaxed, plain_where, plain_when, all_behind, end_with, to_end, run, run1, container, trimmed, with_bytes, or_nothing, hard}
 use Rattle.x509_der.specs.Laws.{Renames, IsField, Anywhere, AtEnd, Marks, IsMarkedField, IsMarkedElement, IsMarkedContents, Opens, differs, Away, Parted}
 use Rattle.x509_der.specs.Leaves.{contents_or, bare_header, header, element, contents, value, any, any_loose, sequence, set, explicit, implicit, bool, bool_loose, u32, unsigned, integer, bits, octets, oid, enumerated, utf8, ia5, implicit_bits, implicit_u32}
 use Rattle.x509_der.specs.Promises.{is_ber_memory, is_excused}
-use Rattle.x509_der.proofs.Lawful.{contents_or_laws, relaxed_laws, bare_header_field, as_loose, element_laws, contents_laws, value_laws, header_field, element_field, give_field, then_field, soft_field, renamed_field, named_field, end_field, run_field, run1_field, or_nothing_field, hard_field, renamed_laws, named_laws, renamed_contents, mapped_laws, container_laws, trimmed_laws, with_bytes_laws}
+use Rattle.x509_der.proofs.Lawful.{contents_or_laws, relaxed_laws, bare_header_field, as_loose, element_laws, contents_laws, value_laws, header_field, element_field, give_field, then_field, soft_field, renamed_field, named_field, end_field, all_behind_field, run_field, run1_field, or_nothing_field, hard_field, renamed_laws, named_laws, renamed_contents, mapped_laws, container_laws, trimmed_laws, with_bytes_laws}
 use Rattle.x509_der.proofs.WantOfMemory.{lifts}
 use Rattle.x509_der.proofs.Results.{got_parts, got_not_err}
 use Rattle.x509_der.proofs.Words.{bool_loose_laws}
 use Rattle.x509_der.proofs.Leaves.{contents_agrees, value_agrees}
-use Rattle.x509_der.proofs.Marked.{opens_away, renamed_away, container_away, soft_parted, both, both_0, both_1, and_true, Narrows, give_marks, header_marks, element_marks, contents_marks, value_marks, end_marks, to_end_marks, then_marked, soft_marks, soft_then_marked, renamed_marks, mapped_marks, relaxed_marks, plain_where_marks, run_marks, run1_marks, container_marks, trimmed_marks, with_bytes_marks, or_nothing_marks, hard_marks, renamed_again, mapped_again, with_bytes_again, container_again, trimmed_again, plain_where_again, then_parted, give_parted}
+use Rattle.x509_der.proofs.Marked.{opens_away, renamed_away, container_away, soft_parted, both, both_0, both_1, and_true, Narrows, give_marks, header_marks, element_marks, contents_marks, value_marks, end_marks, to_end_marks, then_marked, soft_marks, soft_then_marked, renamed_marks, mapped_marks, relaxed_marks, plain_where_marks, Tells, plain_when_marks, all_behind_marks, run_marks, run1_marks, container_marks, trimmed_marks, with_bytes_marks, or_nothing_marks, hard_marks, renamed_again, mapped_again, with_bytes_again, container_again, trimmed_again, plain_where_again, plain_when_again, then_parted, give_parted}
 
 -- ---- leaves
 
@@ -265,6 +265,9 @@ renamed_marked_field of_memory is_memory At rename p hb h = record { field = ren
 pub named_marked_field : {E G A : Type 0} (of_memory : E → Bool) (is_memory : G → Bool) (At : List ℕ → Type 0) (kind : G) (p : Plan (Refusal E) A) → IsMarkedField of_memory At p → IsMarkedField is_memory At (renamed (λ r. refusals.Error kind) p)
 named_marked_field of_memory is_memory At kind p h = record { field = named_field of_memory is_memory kind p h.field; marks = renamed_marks At (λ r. refusals.Error kind) p h.marks }
 
+pub all_behind_marked : {E : Type 0} (is_memory : E → Bool) (At : List ℕ → Type 0) → IsMarkedField is_memory At (all_behind {F = Refusal E})
+all_behind_marked is_memory At = record { field = all_behind_field is_memory; marks = all_behind_marks At }
+
 pub end_marked : {E A : Type 0} (is_memory : E → Bool) (At : List ℕ → Type 0) (why : E) (a : A) → IsMarkedField is_memory At (end_with (refusals.Error why) a)
 end_marked is_memory At why a = let h = end_field is_memory why a in record { field = h; marks = end_marks At (refusals.Error why) a h.agrees }
 
@@ -301,6 +304,21 @@ renamed_marked_contents of_memory is_memory rename p hb h = record { laws = rena
 
 pub mapped_marked : {E A B : Type 0} (is_memory : E → Bool) (p : Plan (Refusal E) A) (f : A → Result B (Refusal E)) → IsMarkedElement is_memory p → ((a : A) (r : Refusal E) → f a ≡ Err r → is_excused is_memory true r ≡ false) → IsMarkedElement is_memory (mapped p f)
 mapped_marked is_memory p f h hf = record { laws = mapped_laws is_memory p f h.laws hf; marked = record { marks = mapped_marks Anywhere p f h.marked.marks; again = mapped_again p f h.marked.again } }
+
+pub plain_when_marked : {E A : Type 0} (is_memory : E → Bool) (Holds : A → Type 0) (test : A → Bool) (p : Plan (Refusal E) A) → IsMarkedElement is_memory p → Tells Holds test p → IsMarkedElement is_memory (plain_when Holds test p)
+plain_when_marked is_memory Holds test p h tells =
+    let lawful = h.laws.lawful in
+    record {
+      laws = record {
+        lawful = record {
+          agrees = record { sound = lawful.agrees.sound; complete = lawful.agrees.complete; refused = lawful.agrees.refused; refusal = lawful.agrees.refusal };
+          is_local = record { sentence = λ place a next k e. let s = lawful.is_local.sentence place a next k e in record { bytes = s.bytes; some = s.some; parts = s.parts; again = s.again } };
+          one = record { element = lawful.one.element };
+        };
+        never_memory = record { refusal = h.laws.never_memory.refusal };
+      };
+      marked = record { marks = plain_when_marks Anywhere Holds test p lawful.agrees tells h.marked.marks; again = plain_when_again Holds test p lawful.is_local h.marked.again };
+    }
 
 pub container_marked : {E A : Type 0} (is_memory : E → Bool) (outer : Plan (Refusal E) (List ℕ)) (fields : Plan (Refusal E) A) → IsMarkedContents is_memory outer → IsMarkedField is_memory AtEnd fields → IsMarkedElement is_memory (container outer fields)
 container_marked is_memory outer fields ho hf = record {
@@ -525,4 +543,4 @@ pub ruleset marked_words = (any_marked, any_loose_marked, sequence_marked, set_m
 -- which fields stand where a header of another tag does
 pub ruleset apart = (give_parted, then_parted, soft_parted, renamed_away, container_away, sequence_away, set_away, bool_away, u32_away, unsigned_away, integer_away, bits_away, octets_away, oid_away, enumerated_away, utf8_away, ia5_away, explicit_away, implicit_away, implicit_bits_away, implicit_u32_away)
 
-pub ruleset marked = (marked_words, contents_marked_element, give_marked, plainly_marked, then_marked_field, soft_marked_field, soft_then_marked_field, apart, end_marked, to_end_marked, run_marked_field, run1_marked_field, or_nothing_marked, renamed_marked, named_marked, renamed_marked_contents, renamed_marked_field, named_marked_field, container_marked, trimmed_marked, with_bytes_marked, element_marked_field, lifts)
+pub ruleset marked = (marked_words, contents_marked_element, give_marked, plainly_marked, then_marked_field, soft_marked_field, soft_then_marked_field, apart, end_marked, all_behind_marked, to_end_marked, run_marked_field, run1_marked_field, or_nothing_marked, renamed_marked, named_marked, renamed_marked_contents, renamed_marked_field, named_marked_field, container_marked, trimmed_marked, with_bytes_marked, element_marked_field, lifts)

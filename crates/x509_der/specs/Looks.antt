@@ -10,7 +10,7 @@ use Rattle.x509_der.specs.declared.look.Form.TheVariants.{Strict, Loose}
 use Rattle.x509_der.specs.declared.look.HeaderError.{HeaderError}
 use Rattle.x509_der.specs.declared.look.HeaderError.TheVariants as failures
 use Rattle.x509_der.specs.declared.look.Seen.{Seen}
-use Rattle.x509_der.specs.Reading.{Reading, Element, class_in, constructed_in, element_at, invalid_length, loose}
+use Rattle.x509_der.specs.Reading.{Reading, Element, class_in, constructed_in, element_at, invalid_length, loose, tried}
 
 -- whether the form takes a length that stands in the fewest octets, or in more
 abbrev pub takes : Form → Bool → Bool
@@ -64,6 +64,10 @@ is_element bytes = is_some_reading (element_at loose bytes)
 abbrev pub place_at : List ℕ → ℕ → List ℕ
 place_at window zero = window
 place_at window (suc n) = behind (place_at window n)
+
+-- the count after the place behind the first element was looked at too; where no element stands, nothing more is tried
+abbrev pub tried_behind : ℕ → List ℕ → ℕ
+tried_behind count bytes = if is_element bytes then tried count (behind bytes) else count
 
 -- ---- tries of a reader of a place that was looked at: one less for each bound, since the look has paid
 

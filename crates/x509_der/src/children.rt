@@ -5,8 +5,8 @@ ghost use Rattle.x509_der.specs.declared.children.Entry.{Entry as EntryOf};
 ghost use Rattle.x509_der.specs.Cut.{Cut, IsBehind};
 ghost use Rattle.x509_der.specs.Entries.{IsEntry};
 ghost use Rattle.x509_der.specs.Laws.{IsBytes};
-ghost use Rattle.x509_der.specs.Looks.{behind, is_element, place_at, is_some_reading};
-ghost use Rattle.x509_der.specs.Reading.{AddsAtLeast, Element, element_at, strict, loose};
+ghost use Rattle.x509_der.specs.Looks.{behind, is_element, place_at, is_some_reading, tried_behind};
+ghost use Rattle.x509_der.specs.Reading.{AddsAtLeast, Element, element_at, strict, loose, tried};
 
 use crate::child::{Child, Stop};
 use crate::header::Tag;
@@ -49,6 +49,7 @@ impl<'a> Two<'a> {
     pub fn cut(tries: &mut Tries, window: &'a [u8]) -> Two<'a>
         ensures first { at result.first ≡ window.now }
         ensures second { at result.second ≡ behind window.now }
+        ensures exact { tries.new ≡ tried_behind (tried tries.old window.now) window.now }
         ensures few { tries.new ≤ tries.old + 2 }
         ensures grows { tries.old ≤ tries.new }
         ensures one { is_element (at result.first) ≡ true → AddsAtLeast 1 tries.old tries.new }
@@ -77,6 +78,7 @@ impl<'a> Three<'a> {
         ensures first { at result.first ≡ window.now }
         ensures second { at result.second ≡ behind window.now }
         ensures third { at result.third ≡ behind (behind window.now) }
+        ensures exact { tries.new ≡ tried_behind (tried_behind (tried tries.old window.now) window.now) (behind window.now) }
         ensures few { tries.new ≤ tries.old + 3 }
         ensures grows { tries.old ≤ tries.new }
         ensures one { is_element (at result.first) ≡ true → AddsAtLeast 1 tries.old tries.new }

@@ -4,7 +4,7 @@ ghost use Rattle.std.specs.Prelude.{◌≡◌, ◌<◌, ◌≤◌, ◌+◌, ◌+
 ghost use Rattle.x509_der.specs.declared.look.Form.{Form};
 ghost use Rattle.x509_der.specs.Laws.{IsBytes};
 ghost use Rattle.x509_der.specs.Leaves.{any_header, any_loose};
-ghost use Rattle.x509_der.specs.Looks.{wanted, header_of, found_or, behind, is_element, is_some_reading};
+ghost use Rattle.x509_der.specs.Looks.{wanted, header_of, found_or, behind, is_element, is_some_reading, tried_behind};
 ghost use Rattle.x509_der.specs.Reading.{Gives, TriesOnce, AddsAtLeast, header_at, element_at, element_of, only_strict, strict, loose};
 
 use crate::any::Any;
@@ -115,6 +115,7 @@ impl<'a> Place<'a> {
     #[inline(always)]
     pub fn next(&self, tries: &mut Tries) -> Place<'a>
         ensures place { at result ≡ behind (at self.now) }
+        ensures exact { tries.new ≡ tried_behind tries.old (at self.now) }
         ensures few_tries { tries.new ≤ tries.old + min (length (behind (at self.now))) 1 }
         ensures some { is_element (at self.now) ≡ true → AddsAtLeast (min (length (behind (at self.now))) 1) tries.old tries.new }
         ensures grows { tries.old ≤ tries.new }

@@ -1,13 +1,16 @@
 -- One extension (RFC 5280, 4.2): its value, its grammar at both depths, its heads, its laws.
-use Rattle.std.specs.Prelude.{ℕ, List, Bool, false, length, unwrap_or, Ok, ◌+◌, true, sum_by, if◌then◌else◌}
+use Rattle.std.specs.Prelude.{◌≡◌, refl, ℕ, List, Bool, false, length, unwrap_or, Ok, ◌+◌, true, sum_by, if◌then◌else◌}
 use Rattle.x509_der.specs.declared.error.Err.TheVariants.{Error}
-use Rattle.x509_der.specs.Plan.{◌>>=◌, give, soft, universal, or_refuse, mapped}
+use Rattle.x509_der.specs.Plan.{◌>>=◌, give, soft, universal, or_refuse, mapped, plain_when}
 use Rattle.x509_der.specs.Leaves.{oid, bool_loose, octets}
 use Rattle.x509_fields.specs.declared.error.X509Error.TheVariants as x509
 use Rattle.x509_fields.specs.Fields.{Field, lifted, sequence, as_x509_renames}
-use Rattle.x509_extensions.specs.Parsed.{Unparsed, Parsed, parsed_of, parsed_value}
+use Rattle.x509_extensions.specs.Parsed.{Unparsed, Parsed, parsed_of, parsed_value, PlainValue, value_marks, value_told_plain}
+use Rattle.x509_extensions.specs.ValueBytes.{GivesBytes, renamed_gives, container_gives, then_gives, contents_give, give_gives}
 use Rattle.x509_der.specs.Laws.{IsMarkedElement}
-use Rattle.x509_der.proofs.Marking.{marked, mapped_marked}
+use Rattle.x509_der.proofs.Marked.{Tells}
+use Rattle.x509_der.proofs.Rulesets.{laws}
+use Rattle.x509_der.proofs.Marking.{marked, mapped_marked, plain_when_marked}
 use Rattle.x509_fields.specs.Errors.{is_x509_memory}
 use Rattle.x509_der.specs.Oid.{oid_bytes}
 use Rattle.x509_extensions.specs.declared.extension.X509Extension.{X509Extension}
@@ -48,9 +51,18 @@ envelope_fields = sequence do
 unfoldable pub envelope : Field Extension
 envelope = or_refuse (Error x509.InvalidExtensions) envelope_fields
 
--- the envelope, with what the value in it says where that is wanted: it refuses nothing
+-- a value that is looked at, plainly
+abbrev pub StandsAtDepth : Bool → Extension → Type 0
+StandsAtDepth true e = PlainValue e.oid e.value
+StandsAtDepth false e = Unit {0}
+
+abbrev pub marks_at_depth : Bool → Extension → Bool
+marks_at_depth true e = value_marks e.oid e.value
+marks_at_depth false e = true
+
+-- The envelope, with what the value in it says where that is wanted: it refuses nothing. Plainly, so is what the value says.
 unfoldable pub extension : Bool → Field Extension
-extension deep = mapped envelope (λ e. Ok (at_depth deep e))
+extension deep = mapped (plain_when (StandsAtDepth deep) (marks_at_depth deep) envelope) (λ e. Ok (at_depth deep e))
 
 -- ---- sizes
 
@@ -72,6 +84,17 @@ pub envelope_laws : IsMarkedElement is_x509_memory envelope
 unfolding envelope
 envelope_laws = search (marked, envelope_fields_laws)
 
+-- the value in an envelope is bytes
+envelope_bytes : GivesBytes (λ e. e.value) envelope
+unfolding envelope envelope_fields
+envelope_bytes = search (renamed_gives, container_gives, then_gives, contents_give, give_gives, laws, as_x509_renames) depth 40
+
+depth_told : (deep : Bool) → Tells (StandsAtDepth deep) (marks_at_depth deep) envelope
+depth_told true place e next k is = value_told_plain e.oid e.value (envelope_bytes.bytes place e next k is)
+depth_told false place e next k is = (λ m. tt, λ h. refl)
+
 pub extension_laws : (deep : Bool) → IsMarkedElement is_x509_memory (extension deep)
 unfolding extension
-extension_laws deep = mapped_marked is_x509_memory envelope (λ e. Ok (at_depth deep e)) envelope_laws (λ e r never. absurd cc)
+extension_laws deep =
+    let looked = plain_when_marked is_x509_memory (StandsAtDepth deep) (marks_at_depth deep) envelope envelope_laws (depth_told deep) in
+    mapped_marked is_x509_memory (plain_when (StandsAtDepth deep) (marks_at_depth deep) envelope) (λ e. Ok (at_depth deep e)) looked (λ e r never. absurd cc)

@@ -93,6 +93,74 @@ pub const OID_PKIX_ACCESS_DESCRIPTOR_CA_ISSUERS: &[u8] = &[
     0x2b, 0x06, 0x01, 0x05, 0x05, 0x07, 0x30, 0x02,
 ];
 
+/// subjectKeyIdentifier, 2.5.29.14 (RFC 5280, 4.2.1.2): the contents of the identifier.
+pub const OID_X509_EXT_SUBJECT_KEY_IDENTIFIER: &[u8] = &[0x55, 0x1d, 0x0e];
+
+/// keyUsage, 2.5.29.15 (RFC 5280, 4.2.1.3): the contents of the identifier.
+pub const OID_X509_EXT_KEY_USAGE: &[u8] = &[0x55, 0x1d, 0x0f];
+
+/// subjectAltName, 2.5.29.17 (RFC 5280, 4.2.1.6): the contents of the identifier.
+pub const OID_X509_EXT_SUBJECT_ALT_NAME: &[u8] = &[0x55, 0x1d, 0x11];
+
+/// issuerAltName, 2.5.29.18 (RFC 5280, 4.2.1.7): the contents of the identifier.
+pub const OID_X509_EXT_ISSUER_ALT_NAME: &[u8] = &[0x55, 0x1d, 0x12];
+
+/// basicConstraints, 2.5.29.19 (RFC 5280, 4.2.1.9): the contents of the identifier.
+pub const OID_X509_EXT_BASIC_CONSTRAINTS: &[u8] = &[0x55, 0x1d, 0x13];
+
+/// cRLNumber, 2.5.29.20 (RFC 5280, 5.2.3): the contents of the identifier.
+pub const OID_X509_EXT_CRL_NUMBER: &[u8] = &[0x55, 0x1d, 0x14];
+
+/// reasonCode, 2.5.29.21 (RFC 5280, 5.3.1): the contents of the identifier.
+pub const OID_X509_EXT_REASON_CODE: &[u8] = &[0x55, 0x1d, 0x15];
+
+/// invalidityDate, 2.5.29.24 (RFC 5280, 5.3.2): the contents of the identifier.
+pub const OID_X509_EXT_INVALIDITY_DATE: &[u8] = &[0x55, 0x1d, 0x18];
+
+/// issuingDistributionPoint, 2.5.29.28 (RFC 5280, 5.2.5): the contents of the identifier.
+pub const OID_X509_EXT_ISSUER_DISTRIBUTION_POINT: &[u8] = &[0x55, 0x1d, 0x1c];
+
+/// nameConstraints, 2.5.29.30 (RFC 5280, 4.2.1.10): the contents of the identifier.
+pub const OID_X509_EXT_NAME_CONSTRAINTS: &[u8] = &[0x55, 0x1d, 0x1e];
+
+/// cRLDistributionPoints, 2.5.29.31 (RFC 5280, 4.2.1.13): the contents of the identifier.
+pub const OID_X509_EXT_CRL_DISTRIBUTION_POINTS: &[u8] = &[0x55, 0x1d, 0x1f];
+
+/// certificatePolicies, 2.5.29.32 (RFC 5280, 4.2.1.4): the contents of the identifier.
+pub const OID_X509_EXT_CERTIFICATE_POLICIES: &[u8] = &[0x55, 0x1d, 0x20];
+
+/// policyMappings, 2.5.29.33 (RFC 5280, 4.2.1.5): the contents of the identifier.
+pub const OID_X509_EXT_POLICY_MAPPINGS: &[u8] = &[0x55, 0x1d, 0x21];
+
+/// authorityKeyIdentifier, 2.5.29.35 (RFC 5280, 4.2.1.1): the contents of the identifier.
+pub const OID_X509_EXT_AUTHORITY_KEY_IDENTIFIER: &[u8] = &[0x55, 0x1d, 0x23];
+
+/// policyConstraints, 2.5.29.36 (RFC 5280, 4.2.1.11): the contents of the identifier.
+pub const OID_X509_EXT_POLICY_CONSTRAINTS: &[u8] = &[0x55, 0x1d, 0x24];
+
+/// extendedKeyUsage, 2.5.29.37 (RFC 5280, 4.2.1.12): the contents of the identifier.
+pub const OID_X509_EXT_EXTENDED_KEY_USAGE: &[u8] = &[0x55, 0x1d, 0x25];
+
+/// inhibitAnyPolicy, 2.5.29.54 (RFC 5280, 4.2.1.14): the contents of the identifier.
+pub const OID_X509_EXT_INHIBIT_ANY_POLICY: &[u8] = &[0x55, 0x1d, 0x36];
+
+/// authorityInfoAccess, 1.3.6.1.5.5.7.1.1 (RFC 5280, 4.2.2.1): the contents of the identifier.
+pub const OID_PKIX_AUTHORITY_INFO_ACCESS: &[u8] = &[0x2b, 0x06, 0x01, 0x05, 0x05, 0x07, 0x01, 0x01];
+
+/// subjectInfoAccess, 1.3.6.1.5.5.7.1.11 (RFC 5280, 4.2.2.2): the contents of the identifier.
+pub const OID_PKIX_SUBJECT_INFO_ACCESS: &[u8] = &[0x2b, 0x06, 0x01, 0x05, 0x05, 0x07, 0x01, 0x0b];
+
+/// ctSCTList, 1.3.6.1.4.1.11129.2.4.2 (RFC 6962, 3.3): the contents of the identifier.
+pub const OID_CT_LIST_SCT: &[u8] = &[0x2b, 0x06, 0x01, 0x04, 0x01, 0xd6, 0x79, 0x02, 0x04, 0x02];
+
+/// nsCertType, 2.16.840.1.113730.1.1 (Netscape Certificate Extensions): the contents of the identifier.
+pub const OID_X509_EXT_CERT_TYPE: &[u8] = &[0x60, 0x86, 0x48, 0x01, 0x86, 0xf8, 0x42, 0x01, 0x01];
+
+/// nsComment, 2.16.840.1.113730.1.13 (Netscape Certificate Extensions): the contents of the identifier.
+pub const OID_X509_EXT_CERT_COMMENT: &[u8] = &[
+    0x60, 0x86, 0x48, 0x01, 0x86, 0xf8, 0x42, 0x01, 0x0d,
+];
+
 /// What is shown for an identifier: its abbreviation, else its short name.
 type Row = (&'static [u8], &'static str);
 
@@ -133,43 +201,37 @@ const REGISTRY: [Row; 49] = [
     (OID_HASH_SHA1, "sha1"),
     (OID_PKIX_ACCESS_DESCRIPTOR_OCSP, "ocsp"),
     (OID_PKIX_ACCESS_DESCRIPTOR_CA_ISSUERS, "caIssuers"),
-    (&[0x55, 0x1d, 0x0e], "subjectKeyIdentifier"),
-    (&[0x55, 0x1d, 0x0f], "keyUsage"),
-    (&[0x55, 0x1d, 0x11], "subjectAltName"),
-    (&[0x55, 0x1d, 0x12], "issuerAltName"),
-    (&[0x55, 0x1d, 0x13], "basicConstraints"),
-    (&[0x55, 0x1d, 0x14], "cRLNumber"),
-    (&[0x55, 0x1d, 0x15], "reasonCode"),
-    (&[0x55, 0x1d, 0x18], "invalidityDate"),
-    (&[0x55, 0x1d, 0x1c], "issuingDistributionPoint"),
-    (&[0x55, 0x1d, 0x1e], "nameConstraints"),
-    (&[0x55, 0x1d, 0x1f], "cRLDistributionPoints"),
-    (&[0x55, 0x1d, 0x20], "certificatePolicies"),
-    (&[0x55, 0x1d, 0x21], "policyMappings"),
-    (&[0x55, 0x1d, 0x23], "authorityKeyIdentifier"),
-    (&[0x55, 0x1d, 0x24], "policyConstraints"),
-    (&[0x55, 0x1d, 0x25], "extendedKeyUsage"),
-    (&[0x55, 0x1d, 0x36], "inhibitAnyPolicy"),
+    (OID_X509_EXT_SUBJECT_KEY_IDENTIFIER, "subjectKeyIdentifier"),
+    (OID_X509_EXT_KEY_USAGE, "keyUsage"),
+    (OID_X509_EXT_SUBJECT_ALT_NAME, "subjectAltName"),
+    (OID_X509_EXT_ISSUER_ALT_NAME, "issuerAltName"),
+    (OID_X509_EXT_BASIC_CONSTRAINTS, "basicConstraints"),
+    (OID_X509_EXT_CRL_NUMBER, "cRLNumber"),
+    (OID_X509_EXT_REASON_CODE, "reasonCode"),
+    (OID_X509_EXT_INVALIDITY_DATE, "invalidityDate"),
     (
-        &[0x2b, 0x06, 0x01, 0x05, 0x05, 0x07, 0x01, 0x01],
-        "authorityInfoAccess",
+        OID_X509_EXT_ISSUER_DISTRIBUTION_POINT,
+        "issuingDistributionPoint",
     ),
+    (OID_X509_EXT_NAME_CONSTRAINTS, "nameConstraints"),
     (
-        &[0x2b, 0x06, 0x01, 0x05, 0x05, 0x07, 0x01, 0x0b],
-        "subjectInfoAccess",
+        OID_X509_EXT_CRL_DISTRIBUTION_POINTS,
+        "cRLDistributionPoints",
     ),
+    (OID_X509_EXT_CERTIFICATE_POLICIES, "certificatePolicies"),
+    (OID_X509_EXT_POLICY_MAPPINGS, "policyMappings"),
     (
-        &[0x2b, 0x06, 0x01, 0x04, 0x01, 0xd6, 0x79, 0x02, 0x04, 0x02],
-        "ctSCTList",
+        OID_X509_EXT_AUTHORITY_KEY_IDENTIFIER,
+        "authorityKeyIdentifier",
     ),
-    (
-        &[0x60, 0x86, 0x48, 0x01, 0x86, 0xf8, 0x42, 0x01, 0x01],
-        "nsCertType",
-    ),
-    (
-        &[0x60, 0x86, 0x48, 0x01, 0x86, 0xf8, 0x42, 0x01, 0x0d],
-        "nsComment",
-    ),
+    (OID_X509_EXT_POLICY_CONSTRAINTS, "policyConstraints"),
+    (OID_X509_EXT_EXTENDED_KEY_USAGE, "extendedKeyUsage"),
+    (OID_X509_EXT_INHIBIT_ANY_POLICY, "inhibitAnyPolicy"),
+    (OID_PKIX_AUTHORITY_INFO_ACCESS, "authorityInfoAccess"),
+    (OID_PKIX_SUBJECT_INFO_ACCESS, "subjectInfoAccess"),
+    (OID_CT_LIST_SCT, "ctSCTList"),
+    (OID_X509_EXT_CERT_TYPE, "nsCertType"),
+    (OID_X509_EXT_CERT_COMMENT, "nsComment"),
 ];
 
 /// The abbreviation of an identifier with these contents, else its short name.

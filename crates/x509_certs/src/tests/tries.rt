@@ -32,16 +32,17 @@ const BAD_BITS: Err<X509Error> = Err::Error(X509Error::InvalidSignatureValue);
 
 #[test]
 fn accepted(rt: HostRuntime) -> Result<(), Fail> {
-    // how many headers a certificate has, and its signed part: no value of an extension is looked into
-    for (sample, whole, signed) in [
-        (Sample::Plain, 17, 13),
-        (Sample::Extended, 24, 20),
-        (Sample::Full, 41, 36),
+    // how many headers a certificate has, its signed part, and the values of its extensions
+    for (sample, shallow, with_values) in [
+        (Sample::Plain, (17, 13), (17, 13)),
+        (Sample::Extended, (24, 20), (25, 21)),
+        (Sample::Full, (41, 36), (41, 36)),
     ] {
         let parts = parts_of(sample);
         let bytes = certificate(rt.alloc(), &parts)?;
         let signed_bytes = signed_part(rt.alloc(), &parts)?;
         for (deep, strict) in [(true, false), (false, false), (true, true), (false, true)] {
+            let (whole, signed) = if deep { with_values } else { shallow };
             let parser = X509CertificateParser::new()
                 .with_deep_parse_extensions(deep)
                 .with_strict(strict);

@@ -54,7 +54,7 @@ fn plain(rt: HostRuntime) -> Result<(), Fail> {
     Ok(())
 }
 
-const LOOSELY: [(&str, Sample, Field, &[u8]); 9] = [
+const LOOSELY: [(&str, Sample, Field, &[u8]); 11] = [
     (
         "the wrapper's length is another",
         Sample::Extended,
@@ -99,6 +99,18 @@ const LOOSELY: [(&str, Sample, Field, &[u8]); 9] = [
         b"\xA3\x10\x30\x0E\x30\x0C\x06\x03\x55\x1D\x13\x01\x01\x01\x04\x02\x30\x00",
     ),
     (
+        "bytes behind a key identifier",
+        Sample::Extended,
+        Field::Extensions,
+        b"\xA3\x0E\x30\x0C\x30\x0A\x06\x03\x55\x1D\x0E\x04\x03\x04\x00\x00",
+    ),
+    (
+        "a general name that cannot be read",
+        Sample::Extended,
+        Field::Extensions,
+        b"\xA3\x10\x30\x0E\x30\x0C\x06\x03\x55\x1D\x11\x04\x05\x30\x03\x82\x01\xFF",
+    ),
+    (
         "parameters cut short",
         Sample::Plain,
         Field::Algorithm,
@@ -118,5 +130,20 @@ fn loose(rt: HostRuntime) -> Result<(), Fail> {
             "{what}"
         );
     }
+    Ok(())
+}
+
+#[test]
+fn values_that_are_not_looked_at(rt: HostRuntime) -> Result<(), Fail> {
+    // bytes behind a key identifier
+    let extensions = b"\xA3\x0E\x30\x0C\x30\x0A\x06\x03\x55\x1D\x0E\x04\x03\x04\x00\x00";
+    let parts = with(Sample::Extended, Field::Extensions, extensions);
+    let bytes = certificate(rt.alloc(), &parts)?;
+    let strict = X509CertificateParser::new().with_strict(true);
+    let deep = strict.parse(rt.alloc(), bytes.as_slice());
+    assert!(rt; matches!(deep, Err(Err::Error(X509Error::Generic))));
+    let shallow = strict.with_deep_parse_extensions(false);
+    let (rest, read) = shallow.parse(rt.alloc(), bytes.as_slice())?;
+    assert!(rt; rest.is_empty() && read.extensions().len() == 1);
     Ok(())
 }

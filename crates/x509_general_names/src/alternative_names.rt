@@ -1,0 +1,145 @@
+//! Other names of a subject and of an issuer.
+
+ghost use Rattle.std.specs.Prelude.{◌≡◌, ◌≤◌, ◌+◌, ◌-◌, List, [], IfOk, IsErr, length, map, true};
+ghost use Rattle.x509_der.specs.Looks.{behind, is_element, CountedBehind};
+ghost use Rattle.x509_der.specs.Place.{at};
+ghost use Rattle.x509_der.specs.Primitives.{is_constructed};
+ghost use Rattle.x509_der.specs.Promises.{Answers, IsForeign};
+ghost use Rattle.x509_der.specs.Reading.{AddsAtLeast, Gives, strict};
+ghost use Rattle.x509_fields.specs.Errors.{is_x509_memory};
+ghost use Rattle.x509_general_names.specs.GeneralName.{GeneralNameValue, general_name_of};
+ghost use Rattle.x509_general_names.specs.AlternativeNames.{subject_names_of, issuer_names_of, end_of_names, general_names, general_names_heads};
+ghost use Rattle.x509_general_names.specs.AlternativeNamesLaws.{general_names_laws};
+
+use crate::general_name::{GeneralName, context_at};
+use std::alloc::Global;
+use x509_der::{BerError, Err, ErrorKind, FromDer, Place, Sequence, Tries, read_run};
+use x509_fields::{X509Error, sequence_at};
+
+#[cfg(test)]
+mod tests;
+
+/// Other names of the subject (RFC 5280, section 4.2.1.6).
+///
+/// ```text
+/// SubjectAltName ::= GeneralNames
+/// GeneralNames ::= SEQUENCE SIZE (1..MAX) OF GeneralName
+/// ```
+#[derive(Debug, PartialEq, Drop)]
+pub struct SubjectAlternativeName<'a> {
+    pub general_names: Sequence<GeneralName<'a>>,
+}
+
+/// The names fill the SEQUENCE, which may be empty. A misspelled element in it, and one that isn't of context class, are
+/// `Failure(Der(InvalidTag))` and `Failure(Der(InvalidLength))`; where the names end otherwise, they are
+/// `Error(Der(NomError(Eof)))`.
+impl<'a> FromDer<'a, X509Error> for SubjectAlternativeName<'a> {
+    ghost Value = { List GeneralNameValue };
+
+    ghost view = { subject_names_of };
+
+    ghost plan = { general_names };
+
+    ghost laws = { general_names_laws.laws.lawful };
+
+    ghost marked = { general_names_laws.marked };
+
+    ghost form = { strict };
+
+    ghost own_tag = { is_constructed 16 };
+
+    ghost heads = { general_names_heads };
+
+    ghost takes_memory = { true };
+
+    fn read_at(
+        alloc: Global,
+        tries: &mut Tries,
+        place: &Place<'a>,
+    ) -> Result<(Self, bool), Err<X509Error>> {
+        let (general_names, plain) = names_at(alloc, tries, place)?;
+        Ok((SubjectAlternativeName { general_names }, plain))
+    }
+
+    ghost never_memory = { general_names_laws.laws.never_memory };
+}
+
+/// Other names of the issuer (RFC 5280, section 4.2.1.7).
+///
+/// ```text
+/// IssuerAltName ::= GeneralNames
+/// GeneralNames ::= SEQUENCE SIZE (1..MAX) OF GeneralName
+/// ```
+#[derive(Debug, PartialEq, Drop)]
+pub struct IssuerAlternativeName<'a> {
+    pub general_names: Sequence<GeneralName<'a>>,
+}
+
+/// As [`SubjectAlternativeName`].
+impl<'a> FromDer<'a, X509Error> for IssuerAlternativeName<'a> {
+    ghost Value = { List GeneralNameValue };
+
+    ghost view = { issuer_names_of };
+
+    ghost plan = { general_names };
+
+    ghost laws = { general_names_laws.laws.lawful };
+
+    ghost marked = { general_names_laws.marked };
+
+    ghost form = { strict };
+
+    ghost own_tag = { is_constructed 16 };
+
+    ghost heads = { general_names_heads };
+
+    ghost takes_memory = { true };
+
+    fn read_at(
+        alloc: Global,
+        tries: &mut Tries,
+        place: &Place<'a>,
+    ) -> Result<(Self, bool), Err<X509Error>> {
+        let (general_names, plain) = names_at(alloc, tries, place)?;
+        Ok((IssuerAlternativeName { general_names }, plain))
+    }
+
+    ghost never_memory = { general_names_laws.laws.never_memory };
+}
+
+// Names in a SEQUENCE that they fill, and their mark.
+#[tactic(auto, unfolding(crate::specs::AlternativeNames::general_names), using(x509_der::proofs::Marking::marks_of_readers, crate::proofs::Ends::end_plain))]
+fn names_at<'a>(
+    alloc: Global,
+    tries: &mut Tries,
+    place: &Place<'a>,
+) -> Result<(Sequence<GeneralName<'a>>, bool), Err<X509Error>>
+    ensures reads { Answers is_x509_memory true (λ x. (behind (at place.now), map general_name_of x.0)) result (general_names.read (at place.now)) }
+    ensures marks { IfOk result (λ x. x.1 ≡ general_names.marks (at place.now)) }
+    ensures grows { tries.old ≤ tries.new }
+    ensures count { CountedBehind (length (behind (at place.now))) tries.old tries.new (length (at place.now)) result }
+    ensures foreign { IsForeign strict (is_constructed 16) (at place.now) → IsErr result × (tries.new ≤ tries.old) }
+    ensures least { IfOk result (λ x. AddsAtLeast (general_names_heads (map general_name_of x.0) - 1) tries.old tries.new) }
+    ensures there { IfOk result (λ _. is_element (at place.now) ≡ true) }
+{
+    let contents = sequence_at(place)?;
+    let (rest, names, plain) = read_run(alloc, tries, contents)?;
+    end_of_names(tries, rest)?;
+    Ok((names, plain))
+}
+
+// What stands behind the last name: nothing, or why it is refused.
+#[tactic(auto, unfolding(crate::specs::AlternativeNames::end_of_names))]
+fn end_of_names(tries: &mut Tries, rest: &[u8]) -> Result<(), Err<X509Error>>
+    ensures reads { (names : List GeneralNameValue) → Gives (λ _. ([], names)) result ((end_of_names names).read rest.now) }
+    ensures grows { tries.old ≤ tries.new }
+    ensures few { tries.new ≤ tries.old + 1 }
+{
+    if rest.is_empty() {
+        return Ok(());
+    }
+    match context_at(&Place::look(tries, rest)) {
+        Err(Err::Error(why)) => Err(Err::Failure(why)),
+        _ => Err(Err::Error(X509Error::Der(BerError::NomError(ErrorKind::Eof)))),
+    }
+}

@@ -1,0 +1,5 @@
+pub mod BigEndian
+pub mod Plain
+pub mod Fronts
+pub mod Refusals
+pub mod Written

@@ -1,0 +1,130 @@
+//! Policies that two authorities hold for equivalent.
+
+ghost use Rattle.std.specs.Prelude.{◌≡◌, List, false, true};
+ghost use Rattle.x509_der.specs.Oid.{oid_bytes};
+ghost use Rattle.x509_der.specs.Primitives.{is_constructed};
+ghost use Rattle.x509_der.specs.Reading.{strict};
+ghost use Rattle.x509_usages.specs.PolicyMapping.{PolicyMappingValue, policy_mapping_of, policy_mapping, policy_mapping_heads, policy_mapping_laws, policy_mappings_of, policy_mappings, policy_mappings_heads, policy_mappings_laws};
+
+use std::alloc::Global;
+use x509_der::{BerError, Err, FromDer, Oid, Place, Sequence, Tries, Two, read_to_end};
+use x509_fields::{X509Error, sequence_at};
+
+/// A policy of the issuer, and the subject's that it holds for equivalent (RFC 5280, section 4.2.1.5).
+///
+/// ```text
+/// SEQUENCE {
+///     issuerDomainPolicy   CertPolicyId,
+///     subjectDomainPolicy  CertPolicyId }
+///
+/// CertPolicyId ::= OBJECT IDENTIFIER
+/// ```
+///
+/// Bytes behind the second identifier are skipped.
+#[derive(Clone, Copy, Debug, PartialEq, Eq)]
+pub struct PolicyMapping<'a> {
+    pub issuer_domain_policy: Oid<'a>,
+    pub subject_domain_policy: Oid<'a>,
+}
+
+impl<'a> PolicyMapping<'a> {
+    /// The mapping of these two policies.
+    pub const fn new(issuer_domain_policy: Oid<'a>, subject_domain_policy: Oid<'a>) -> Self
+        ensures { policy_mapping_of result ≡ record { issuer_domain_policy = oid_bytes issuer_domain_policy.entry; subject_domain_policy = oid_bytes subject_domain_policy.entry } }
+    {
+        PolicyMapping {
+            issuer_domain_policy,
+            subject_domain_policy,
+        }
+    }
+}
+
+impl<'a> FromDer<'a, BerError> for PolicyMapping<'a> {
+    ghost Value = { PolicyMappingValue };
+
+    ghost view = { policy_mapping_of };
+
+    ghost plan = { policy_mapping };
+
+    ghost laws = { policy_mapping_laws.laws.lawful };
+
+    ghost marked = { policy_mapping_laws.marked };
+
+    ghost form = { strict };
+
+    ghost own_tag = { is_constructed 16 };
+
+    ghost heads = { policy_mapping_heads };
+
+    ghost takes_memory = { false };
+
+    #[tactic(auto, unfolding(crate::specs::PolicyMapping::policy_mapping), using(x509_der::proofs::Marking::marks_of_readers))]
+    fn read_at(
+        _alloc: Global,
+        tries: &mut Tries,
+        place: &Place<'a>,
+    ) -> Result<(Self, bool), Err<BerError>> {
+        let contents = place.sequence()?;
+        let Two { first, second } = Two::cut(tries, contents);
+        let issuer_domain_policy = first.oid()?;
+        let subject_domain_policy = second.oid()?;
+        let mapping = PolicyMapping {
+            issuer_domain_policy,
+            subject_domain_policy,
+        };
+        Ok((mapping, second.rest().is_empty()))
+    }
+
+    ghost never_memory = { policy_mapping_laws.laws.never_memory };
+}
+
+/// Policies that are held for equivalent (RFC 5280, section 4.2.1.5).
+///
+/// ```text
+/// PolicyMappings ::= SEQUENCE SIZE (1..MAX) OF SEQUENCE { .. }
+/// ```
+///
+/// The SEQUENCE may be empty. It is read to its end: where a member cannot be read, `NomError(Eof)`.
+#[derive(Debug, Drop, PartialEq, Eq)]
+pub struct PolicyMappings<'a> {
+    /// The mappings, in the order in which they stand.
+    pub mappings: Sequence<PolicyMapping<'a>>,
+}
+
+impl<'a> FromDer<'a, X509Error> for PolicyMappings<'a> {
+    ghost Value = { List PolicyMappingValue };
+
+    ghost view = { policy_mappings_of };
+
+    ghost plan = { policy_mappings };
+
+    ghost laws = { policy_mappings_laws.laws.lawful };
+
+    ghost marked = { policy_mappings_laws.marked };
+
+    ghost form = { strict };
+
+    ghost own_tag = { is_constructed 16 };
+
+    ghost heads = { policy_mappings_heads };
+
+    ghost takes_memory = { true };
+
+    #[tactic(auto, unfolding(crate::specs::PolicyMapping::policy_mappings, crate::specs::PolicyMapping::policy_mapping_list), using(x509_der::proofs::Marking::marks_of_readers))]
+    fn read_at(
+        alloc: Global,
+        tries: &mut Tries,
+        place: &Place<'a>,
+    ) -> Result<(Self, bool), Err<X509Error>> {
+        let contents = sequence_at(place)?;
+        let (mappings, plain) = read_to_end::<BerError, PolicyMapping<'a>>(
+            alloc, tries, contents,
+        ).map_err(|e| e.convert())?;
+        Ok((PolicyMappings { mappings }, plain))
+    }
+
+    ghost never_memory = { policy_mappings_laws.laws.never_memory };
+}
+
+#[cfg(test)]
+mod tests;
