@@ -2,14 +2,14 @@
 use Rattle.std.proofs.Common.{◌≡◌, ℕ, List, Result, Ok, Err, refl, sym, ap, subst, ◌∙◌, inl, inr}
 use Rattle.x509_der.specs.declared.error.BerError.{BerError}
 use Rattle.x509_der.specs.declared.error.Err.{Err as Refusal}
-use Rattle.x509_der.specs.Laws.{IsBytes, IsLawful}
+use Rattle.x509_der.specs.Laws.{IsBytes, Agrees, IsLawful}
 use Rattle.x509_der.specs.Plan.{Outcome, got}
 use Rattle.x509_der.specs.Promises.{IsFront, refusal_by}
 use Rattle.x509_der.proofs.Results.{cases_outcome}
 use Rattle.x509_der.proofs.Sentences.{front_read, front_only}
 use Rattle.x509_fields.specs.declared.error.X509Error.{X509Error}
 use Rattle.x509_fields.specs.Fields.{Field}
-use Rattle.x509_extensions.specs.Parsed.{Parsed, Failed, made, only_value, said, ber_in, parsed_value, IsRow}
+use Rattle.x509_extensions.specs.Parsed.{Parsed, Failed, made, only_value, said, ber_in, parsed_value, IsRow, IsWholeRow}
 
 -- what is said of a reading
 abbrev said_of : {A : Type 0} → (A → Parsed) → Outcome (Refusal X509Error) A → Parsed
@@ -35,4 +35,18 @@ is_row {A} id p make laws row once never =
         | inr t ↦ absurd (never a (refusal_by ber_in t.0) (sym (ap (said_of make) t.1) ∙ sym (says value) ∙ e))
       ];
       failed = λ value r k h. says value ∙ ap (said_of make) (laws.agrees.refusal value r k h);
+    }
+
+pub is_whole_row : {A : Type 0} (id : List ℕ) (p : Field A) (make : A → Parsed) → Agrees p → ((value : List ℕ) → parsed_value id value ≡ said (only_value ((made make p).read value))) → ((x y : A) → make x ≡ make y → x ≡ y) → ((x : A) (r : Refusal BerError) → Failed r ≡ make x → ⊥) → IsWholeRow id p make
+is_whole_row {A} id p make agrees row once never =
+    let says : (value : List ℕ) → parsed_value id value ≡ said_of make (p.read value) = λ value. row value ∙ said_made make p value in
+    record {
+      accepted = λ value a rest k is. says value ∙ ap (said_of make) (agrees.complete value a rest k is);
+      only = λ value a k e. elim (cases_outcome (p.read value)) [
+        | inl t ↦
+            let same = once t.0 a (sym (ap (said_of make) t.2) ∙ sym (says value) ∙ e) in
+            (t.1, subst (λ b. p.Is value b t.1) same (agrees.sound value t.0 t.1 k t.2))
+        | inr t ↦ absurd (never a (refusal_by ber_in t.0) (sym (ap (said_of make) t.1) ∙ sym (says value) ∙ e))
+      ];
+      failed = λ value r k h. says value ∙ ap (said_of make) (agrees.refusal value r k h);
     }

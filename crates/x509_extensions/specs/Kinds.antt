@@ -14,12 +14,23 @@ known =
     (objects.subject_alt_name, kinds.SubjectAlternativeName) ∷
     (objects.issuer_alt_name, kinds.IssuerAlternativeName) ∷
     (objects.basic_constraints, kinds.BasicConstraints) ∷
+    (objects.crl_number, kinds.CRLNumber) ∷
+    (objects.reason_code, kinds.ReasonCode) ∷
+    (objects.invalidity_date, kinds.InvalidityDate) ∷
+    (objects.issuing_distribution_point, kinds.IssuingDistributionPoint) ∷
     (objects.name_constraints, kinds.NameConstraints) ∷
+    (objects.crl_distribution_points, kinds.CRLDistributionPoints) ∷
     (objects.certificate_policies, kinds.CertificatePolicies) ∷
     (objects.policy_mappings, kinds.PolicyMappings) ∷
+    (objects.authority_key_identifier, kinds.AuthorityKeyIdentifier) ∷
     (objects.policy_constraints, kinds.PolicyConstraints) ∷
     (objects.extended_key_usage, kinds.ExtendedKeyUsage) ∷
     (objects.inhibit_any_policy, kinds.InhibitAnyPolicy) ∷
+    (objects.authority_info_access, kinds.AuthorityInfoAccess) ∷
+    (objects.subject_info_access, kinds.SubjectInfoAccess) ∷
+    (objects.ct_list_sct, kinds.SCT) ∷
+    (objects.ns_cert_type, kinds.NSCertType) ∷
+    (objects.ns_comment, kinds.NsCertComment) ∷
     []
 
 -- none where the identifier has no row

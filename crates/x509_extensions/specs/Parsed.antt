@@ -3,28 +3,42 @@ use Rattle.std.specs.Prelude.{◌≡◌, refl, ℕ, List, map, Bool, true, false
 use Rattle.x509_der.specs.declared.error.BerError.{BerError}
 use Rattle.x509_der.specs.declared.error.BerError.TheVariants as ber
 use Rattle.x509_der.specs.declared.error.Err.{Err as Refusal}
-use Rattle.x509_der.specs.Laws.{IsBytes, IsMarkedField, Anywhere}
+use Rattle.x509_der.specs.Laws.{IsBytes, IsMarkedField, IsMarkedElement, Anywhere}
 use Rattle.x509_der.specs.Oid.{oid_bytes}
 use Rattle.x509_der.specs.Plan.{Outcome, Plan, ◌>>=◌, give, PlainInside, marks_value}
 use Rattle.x509_der.specs.Promises.{IsFront, refusal_by}
+use Rattle.x509_der.specs.Unsigned.{unsigned_bytes}
 use Rattle.x509_der.proofs.Marked.{value_told}
 use Rattle.x509_der.proofs.Marking.{marked}
 use Rattle.x509_fields.specs.declared.error.X509Error.{X509Error}
 use Rattle.x509_fields.specs.declared.error.X509Error.TheVariants as x509
 use Rattle.x509_fields.specs.Errors.{is_x509_memory}
-use Rattle.x509_fields.specs.Fields.{Field}
-use Rattle.x509_usages.specs.KeyIdentifier.{key_identifier_of, key_identifier, key_identifier_laws}
+use Rattle.x509_fields.specs.Fields.{Field, lifted, as_x509_renames}
+use Rattle.x509_fields.specs.Times.{Time, time_of}
+use Rattle.x509_authorities.specs.KeyIdentifier.{key_identifier_of, key_identifier, key_identifier_laws}
 use Rattle.x509_usages.specs.KeyUsage.{key_usage_of, key_usage, key_usage_laws}
-use Rattle.x509_general_names.specs.AlternativeNames.{subject_names_of, general_names, issuer_names_of}
-use Rattle.x509_usages.specs.BasicConstraints.{basic_constraints_of, basic_constraints, basic_constraints_laws, BasicConstraintsValue}
-use Rattle.x509_general_names.specs.NameConstraints.{constraints_of, name_constraints, name_constraints_laws, Constraints}
-use Rattle.x509_usages.specs.Policies.{policies, policies_laws, policy_of, PolicyValue}
-use Rattle.x509_usages.specs.PolicyMapping.{policy_mappings_of, policy_mappings, policy_mappings_laws, PolicyMappingValue}
-use Rattle.x509_usages.specs.PolicyConstraints.{policy_constraints_of, policy_constraints, policy_constraints_laws, PolicyConstraintsValue}
-use Rattle.x509_usages.specs.ExtendedKeyUsage.{usages_of, extended_key_usage, extended_key_usage_laws, Usages}
-use Rattle.x509_usages.specs.InhibitAnyPolicy.{inhibit_any_policy, inhibit_any_policy_laws}
+use Rattle.x509_general_names.specs.AlternativeNames.{subject_names_of, issuer_names_of, general_names}
 use Rattle.x509_general_names.specs.AlternativeNamesLaws.{general_names_laws}
 use Rattle.x509_general_names.specs.GeneralName.{GeneralNameValue}
+use Rattle.x509_usages.specs.BasicConstraints.{basic_constraints_of, basic_constraints, basic_constraints_laws, BasicConstraintsValue}
+use Rattle.x509_usages.specs.CrlNumber.{crl_number, crl_number_laws}
+use Rattle.x509_usages.specs.ReasonCode.{reason_code, reason_code_laws}
+use Rattle.x509_usages.specs.InvalidityDate.{invalidity_date, invalidity_date_laws}
+use Rattle.x509_authorities.specs.IssuingDistributionPoint.{IssuingPoint, issuing_point_of, issuing_distribution_point, issuing_distribution_point_laws}
+use Rattle.x509_general_names.specs.NameConstraints.{Constraints, constraints_of, name_constraints, name_constraints_laws}
+use Rattle.x509_authorities.specs.DistributionPoints.{Point, points_of, crl_distribution_points, crl_distribution_points_laws}
+use Rattle.x509_usages.specs.Policies.{PolicyValue, policy_of, policies, policies_laws}
+use Rattle.x509_usages.specs.PolicyMapping.{PolicyMappingValue, policy_mappings_of, policy_mappings, policy_mappings_laws}
+use Rattle.x509_authorities.specs.AuthorityKeyIdentifier.{AuthorityKeyIdentifierValue, authority_key_identifier_of, authority_key_identifier, authority_key_identifier_laws}
+use Rattle.x509_usages.specs.PolicyConstraints.{PolicyConstraintsValue, policy_constraints_of, policy_constraints, policy_constraints_laws}
+use Rattle.x509_usages.specs.ExtendedKeyUsage.{Usages, usages_of, extended_key_usage, extended_key_usage_laws}
+use Rattle.x509_usages.specs.InhibitAnyPolicy.{inhibit_any_policy, inhibit_any_policy_laws}
+use Rattle.x509_authorities.specs.InformationAccess.{Access, authority_accesses_of, subject_accesses_of, information_access, information_access_laws}
+use Rattle.x509_timestamps.specs.TimestampList.{timestamps, timestamps_laws}
+use Rattle.x509_usages.specs.NsCertType.{ns_cert_type_of, ns_cert_type, ns_cert_type_laws}
+use Rattle.x509_usages.specs.NsComment.{ns_comment}
+use Rattle.x509_timestamps.specs.Timestamp.{TimestampValue, timestamp_of}
+use Rattle.x509_usages.proofs.Comments.{ns_comment_laws}
 use Rattle.x509_extensions.specs.Kinds.{kind_of}
 use Rattle.x509_extensions.specs.declared.kind.Kind.{Kind}
 use Rattle.x509_extensions.specs.declared.kind.Kind.TheVariants as kinds
@@ -46,28 +60,50 @@ pub data Parsed : Type 0 where
   SubjectAlternativeName : List GeneralNameValue → Parsed
   IssuerAlternativeName : List GeneralNameValue → Parsed
   BasicConstraints : BasicConstraintsValue → Parsed
+  CRLNumber : List ℕ → Parsed
+  ReasonCode : ℕ → Parsed
+  InvalidityDate : Time → Parsed
+  IssuingDistributionPoint : IssuingPoint → Parsed
   NameConstraints : Constraints → Parsed
+  CRLDistributionPoints : List Point → Parsed
   CertificatePolicies : List PolicyValue → Parsed
   PolicyMappings : List PolicyMappingValue → Parsed
+  AuthorityKeyIdentifier : AuthorityKeyIdentifierValue → Parsed
   PolicyConstraints : PolicyConstraintsValue → Parsed
   ExtendedKeyUsage : Usages → Parsed
   InhibitAnyPolicy : ℕ → Parsed
+  AuthorityInfoAccess : List Access → Parsed
+  SubjectInfoAccess : List Access → Parsed
+  SCT : List TimestampValue → Parsed
+  NSCertType : ℕ → Parsed
+  NsCertComment : List ℕ → Parsed
 
 abbrev pub parsed_of : ParsedExtension → Parsed
 parsed_of (variants.UnsupportedExtension oid) = Unsupported (oid_bytes oid)
 parsed_of (variants.ParseError error) = Failed error
 parsed_of variants.Unparsed = Unparsed
-parsed_of (variants.SubjectKeyIdentifier k) = SubjectKeyIdentifier (key_identifier_of k)
-parsed_of (variants.KeyUsage u) = KeyUsage (key_usage_of u)
-parsed_of (variants.SubjectAlternativeName n) = SubjectAlternativeName (subject_names_of n)
-parsed_of (variants.IssuerAlternativeName n) = IssuerAlternativeName (issuer_names_of n)
-parsed_of (variants.BasicConstraints c) = BasicConstraints (basic_constraints_of c)
-parsed_of (variants.NameConstraints c) = NameConstraints (constraints_of c)
-parsed_of (variants.CertificatePolicies p) = CertificatePolicies (map policy_of p)
-parsed_of (variants.PolicyMappings m) = PolicyMappings (policy_mappings_of m)
-parsed_of (variants.PolicyConstraints c) = PolicyConstraints (policy_constraints_of c)
-parsed_of (variants.ExtendedKeyUsage u) = ExtendedKeyUsage (usages_of u)
-parsed_of (variants.InhibitAnyPolicy p) = InhibitAnyPolicy (p.skip_certs)
+parsed_of (variants.SubjectKeyIdentifier v) = SubjectKeyIdentifier (key_identifier_of v)
+parsed_of (variants.KeyUsage v) = KeyUsage (key_usage_of v)
+parsed_of (variants.SubjectAlternativeName v) = SubjectAlternativeName (subject_names_of v)
+parsed_of (variants.IssuerAlternativeName v) = IssuerAlternativeName (issuer_names_of v)
+parsed_of (variants.BasicConstraints v) = BasicConstraints (basic_constraints_of v)
+parsed_of (variants.CRLNumber v) = CRLNumber (unsigned_bytes v)
+parsed_of (variants.ReasonCode v) = ReasonCode (v.0)
+parsed_of (variants.InvalidityDate v) = InvalidityDate (time_of v)
+parsed_of (variants.IssuingDistributionPoint v) = IssuingDistributionPoint (issuing_point_of v)
+parsed_of (variants.NameConstraints v) = NameConstraints (constraints_of v)
+parsed_of (variants.CRLDistributionPoints v) = CRLDistributionPoints (points_of v)
+parsed_of (variants.CertificatePolicies v) = CertificatePolicies (map policy_of v)
+parsed_of (variants.PolicyMappings v) = PolicyMappings (policy_mappings_of v)
+parsed_of (variants.AuthorityKeyIdentifier v) = AuthorityKeyIdentifier (authority_key_identifier_of v)
+parsed_of (variants.PolicyConstraints v) = PolicyConstraints (policy_constraints_of v)
+parsed_of (variants.ExtendedKeyUsage v) = ExtendedKeyUsage (usages_of v)
+parsed_of (variants.InhibitAnyPolicy v) = InhibitAnyPolicy (v.skip_certs)
+parsed_of (variants.AuthorityInfoAccess v) = AuthorityInfoAccess (authority_accesses_of v)
+parsed_of (variants.SubjectInfoAccess v) = SubjectInfoAccess (subject_accesses_of v)
+parsed_of (variants.SCT v) = SCT (map timestamp_of v)
+parsed_of (variants.NSCertType v) = NSCertType (ns_cert_type_of v)
+parsed_of (variants.NsCertComment v) = NsCertComment (v.now)
 
 abbrev pub is_unsupported : Parsed → Bool
 is_unsupported (Unsupported id) = true
@@ -91,12 +127,23 @@ row kinds.KeyUsage = made (λ v. KeyUsage v) key_usage
 row kinds.SubjectAlternativeName = made (λ v. SubjectAlternativeName v) general_names
 row kinds.IssuerAlternativeName = made (λ v. IssuerAlternativeName v) general_names
 row kinds.BasicConstraints = made (λ v. BasicConstraints v) basic_constraints
+row kinds.CRLNumber = made (λ v. CRLNumber v) crl_number
+row kinds.ReasonCode = made (λ v. ReasonCode v) reason_code
+row kinds.InvalidityDate = made (λ v. InvalidityDate v) invalidity_date
+row kinds.IssuingDistributionPoint = made (λ v. IssuingDistributionPoint v) issuing_distribution_point
 row kinds.NameConstraints = made (λ v. NameConstraints v) name_constraints
+row kinds.CRLDistributionPoints = made (λ v. CRLDistributionPoints v) crl_distribution_points
 row kinds.CertificatePolicies = made (λ v. CertificatePolicies v) policies
 row kinds.PolicyMappings = made (λ v. PolicyMappings v) policy_mappings
+row kinds.AuthorityKeyIdentifier = made (λ v. AuthorityKeyIdentifier v) authority_key_identifier
 row kinds.PolicyConstraints = made (λ v. PolicyConstraints v) policy_constraints
 row kinds.ExtendedKeyUsage = made (λ v. ExtendedKeyUsage v) extended_key_usage
 row kinds.InhibitAnyPolicy = made (λ v. InhibitAnyPolicy v) inhibit_any_policy
+row kinds.AuthorityInfoAccess = made (λ v. AuthorityInfoAccess v) information_access
+row kinds.SubjectInfoAccess = made (λ v. SubjectInfoAccess v) information_access
+row kinds.SCT = made (λ v. SCT v) (lifted timestamps)
+row kinds.NSCertType = made (λ v. NSCertType v) ns_cert_type
+row kinds.NsCertComment = made (λ v. NsCertComment v) ns_comment
 
 -- the refusal of a value, which stands for one element
 abbrev pub ber_in : X509Error → BerError
@@ -144,18 +191,32 @@ value_marks id value = marks_by (kind_of id) value
 
 -- ---- laws
 
+pub sct_laws : IsMarkedElement is_x509_memory (lifted timestamps)
+sct_laws = search (marked, as_x509_renames, timestamps_laws) depth 20
+
 pub row_laws : (kind : Kind) → IsMarkedField is_x509_memory Anywhere (row kind)
 row_laws kinds.SubjectKeyIdentifier = search (marked, key_identifier_laws) depth 20
 row_laws kinds.KeyUsage = search (marked, key_usage_laws) depth 20
 row_laws kinds.SubjectAlternativeName = search (marked, general_names_laws) depth 20
 row_laws kinds.IssuerAlternativeName = search (marked, general_names_laws) depth 20
 row_laws kinds.BasicConstraints = search (marked, basic_constraints_laws) depth 20
+row_laws kinds.CRLNumber = search (marked, crl_number_laws) depth 20
+row_laws kinds.ReasonCode = search (marked, reason_code_laws) depth 20
+row_laws kinds.InvalidityDate = search (marked, invalidity_date_laws) depth 20
+row_laws kinds.IssuingDistributionPoint = search (marked, issuing_distribution_point_laws) depth 20
 row_laws kinds.NameConstraints = search (marked, name_constraints_laws) depth 20
+row_laws kinds.CRLDistributionPoints = search (marked, crl_distribution_points_laws) depth 20
 row_laws kinds.CertificatePolicies = search (marked, policies_laws) depth 20
 row_laws kinds.PolicyMappings = search (marked, policy_mappings_laws) depth 20
+row_laws kinds.AuthorityKeyIdentifier = search (marked, authority_key_identifier_laws) depth 20
 row_laws kinds.PolicyConstraints = search (marked, policy_constraints_laws) depth 20
 row_laws kinds.ExtendedKeyUsage = search (marked, extended_key_usage_laws) depth 20
 row_laws kinds.InhibitAnyPolicy = search (marked, inhibit_any_policy_laws) depth 20
+row_laws kinds.AuthorityInfoAccess = search (marked, information_access_laws) depth 20
+row_laws kinds.SubjectInfoAccess = search (marked, information_access_laws) depth 20
+row_laws kinds.SCT = search (marked, sct_laws) depth 20
+row_laws kinds.NSCertType = search (marked, ns_cert_type_laws) depth 20
+row_laws kinds.NsCertComment = search (marked, ns_comment_laws) depth 20
 
 told_by : (known : Option Kind) (value : List ℕ) → IsBytes value → ((marks_by known value ≡ true) → PlainBy known value) × (PlainBy known value → marks_by known value ≡ true)
 told_by None value k = (λ m. tt, λ h. refl)
@@ -171,4 +232,10 @@ value_told_plain id value k = told_by (kind_of id) value k
 pub record IsRow {A : Type 0} (id : List ℕ) (plan : Field A) (make : A → Parsed) : Type 0 where
   pub accepted : (value : List ℕ) (a : A) (rest : List ℕ) → IsBytes value → IsFront plan value a rest → parsed_value id value ≡ make a
   pub only : (value : List ℕ) (a : A) → IsBytes value → parsed_value id value ≡ make a → (rest : List ℕ) × IsFront plan value a rest
+  pub failed : (value : List ℕ) (r : Refusal X509Error) → IsBytes value → plan.Refuses value r → parsed_value id value ≡ Failed (refusal_by ber_in r)
+
+-- The same of a plan that may take in all the bytes of its place.
+pub record IsWholeRow {A : Type 0} (id : List ℕ) (plan : Field A) (make : A → Parsed) : Type 0 where
+  pub accepted : (value : List ℕ) (a : A) (rest : List ℕ) → IsBytes value → plan.Is value a rest → parsed_value id value ≡ make a
+  pub only : (value : List ℕ) (a : A) → IsBytes value → parsed_value id value ≡ make a → (rest : List ℕ) × plan.Is value a rest
   pub failed : (value : List ℕ) (r : Refusal X509Error) → IsBytes value → plan.Refuses value r → parsed_value id value ≡ Failed (refusal_by ber_in r)

@@ -1,6 +1,6 @@
 //! Readers of extensions in their SEQUENCE, and of those that close a structure.
 
-ghost use Rattle.std.specs.Prelude.{◌≡◌, ◌<◌, ◌≤◌, ◌+◌, ◌-◌, ◌*◌, [], true, false, IfOk, map, min, length, sum_by};
+ghost use Rattle.std.specs.Prelude.{◌≡◌, ◌<◌, ◌≤◌, ◌+◌, ◌-◌, ◌*◌, [], true, false, IfOk, IsErr, map, min, length, sum_by};
 ghost use Rattle.x509_der.specs.Place.{at};
 ghost use Rattle.x509_der.specs.Plan.{run, to_end, marks_of_members};
 ghost use Rattle.x509_der.specs.Primitives.{is_constructed};
@@ -82,6 +82,8 @@ impl X509ExtensionParser {
         ensures marks { IfOk result (λ x. x.1 ≡ (wrapped_extensions number self.now.deep_parse_extensions).marks (at place.now)) }
         ensures grows { tries.old ≤ tries.new }
         ensures count { tries.new ≤ tries.old + (8 * length (at place.now) - 8) }
+        // A header of another number is tried no more.
+        ensures foreign { IsErr ((wrapper_header number).read (at place.now)) → tries.new ≤ tries.old }
         ensures least { IfOk result (λ x. AddsAtLeast (wrapped_heads (map extension_of x.0) - min 1 (length (at place.now))) tries.old tries.new) }
         ensures shallow { self.now.deep_parse_extensions ≡ false → IfOk result (λ x. tries.new + 8 * value_bytes (map extension_of x.0) + min 1 (length (at place.now)) ≤ tries.old + 8 * length (at place.now)) }
     {

@@ -1,16 +1,13 @@
 -- Other names of a subject and of an issuer (RFC 5280, 4.2.1.6 and 4.2.1.7).
 use Rattle.std.specs.Prelude.{◌≡◌, ℕ, ◌+◌, true, List, map, sum_by, Err}
-use Rattle.x509_der.specs.declared.error.BerError.TheVariants as ber
 use Rattle.x509_der.specs.declared.error.Err.{Err as Refusal}
 use Rattle.x509_der.specs.declared.error.Err.TheVariants as refusals
-use Rattle.x509_der.specs.declared.error.ErrorKind.{ErrorKind}
 use Rattle.x509_der.specs.Plan.{Outcome, Plan, got, ◌>>=◌, run, to_end}
 use Rattle.x509_der.specs.Promises.{ended_early}
-use Rattle.x509_fields.specs.declared.error.X509Error.{X509Error}
-use Rattle.x509_fields.specs.declared.error.X509Error.TheVariants.{Der}
 use Rattle.x509_fields.specs.Fields.{Field, sequence}
 use Rattle.x509_general_names.specs.declared.alternative_names.SubjectAlternativeName.{SubjectAlternativeName}
 use Rattle.x509_general_names.specs.declared.alternative_names.IssuerAlternativeName.{IssuerAlternativeName}
+use Rattle.x509_parts.specs.Lists.{list_error}
 use Rattle.x509_general_names.specs.GeneralName.{GeneralNameValue, general_name_of, general_name_heads, context_element, general_name}
 
 -- ---- the values
@@ -22,10 +19,6 @@ abbrev pub issuer_names_of : IssuerAlternativeName → List GeneralNameValue
 issuer_names_of names = map general_name_of names.general_names
 
 -- ---- the grammar
-
--- the error of a list in the value of an extension
-abbrev pub list_error : ErrorKind → X509Error
-list_error kind = Der (ber.NomError kind)
 
 abbrev pub got_or_failed : {E A B : Type 0} → B → List ℕ → Outcome (Refusal E) A → Outcome (Refusal E) B
 got_or_failed b place (Err (refusals.Error e)) = Err (refusals.Failure e)

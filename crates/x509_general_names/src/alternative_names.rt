@@ -27,12 +27,13 @@ mod tests;
 /// ```
 #[derive(Debug, PartialEq, Drop)]
 pub struct SubjectAlternativeName<'a> {
+    /// The names, in order.
     pub general_names: Sequence<GeneralName<'a>>,
 }
 
-/// The names fill the SEQUENCE, which may be empty. A misspelled element in it, and one that isn't of context class, are
-/// `Failure(Der(InvalidTag))` and `Failure(Der(InvalidLength))`; where the names end otherwise, they are
-/// `Error(Der(NomError(Eof)))`.
+/// The names fill the SEQUENCE, which may be empty. A whole element in it whose class isn't that of context, and a header
+/// with a misspelled tag, are `Failure(Der(InvalidTag))`; a header with a misspelled length is
+/// `Failure(Der(InvalidLength))`. Where an element is cut short, the names are `Error(Der(NomError(Eof)))`.
 impl<'a> FromDer<'a, X509Error> for SubjectAlternativeName<'a> {
     ghost Value = { List GeneralNameValue };
 
@@ -72,6 +73,7 @@ impl<'a> FromDer<'a, X509Error> for SubjectAlternativeName<'a> {
 /// ```
 #[derive(Debug, PartialEq, Drop)]
 pub struct IssuerAlternativeName<'a> {
+    /// The names, in order.
     pub general_names: Sequence<GeneralName<'a>>,
 }
 

@@ -9,15 +9,14 @@ ghost use Rattle.x509_der.specs.Primitives.{is_constructed, is_explicit};
 ghost use Rattle.x509_der.specs.Promises.{Answers, IsForeign, option_view, option_heads};
 ghost use Rattle.x509_der.specs.Reading.{AddsAtLeast, strict};
 ghost use Rattle.x509_fields.specs.Errors.{is_x509_memory};
-ghost use Rattle.x509_der.specs.declared.error.Err.TheVariants.{Error};
-ghost use Rattle.x509_general_names.specs.AlternativeNames.{list_error};
 ghost use Rattle.x509_general_names.specs.GeneralName.{GeneralNameValue};
 ghost use Rattle.x509_general_names.specs.NameConstraints.{subtree_of, subtrees_of, Constraints, constraints_of, general_subtree, general_subtrees, name_constraints, subtree_heads, subtrees_heads, constraints_heads, general_subtree_laws, name_constraints_laws};
 
 use crate::general_name::GeneralName;
 use std::alloc::Global;
-use x509_der::{BerError, Elements, Err, ErrorKind, FromDer, Place, Sequence, Tries, read_run};
+use x509_der::{Elements, Err, ErrorKind, FromDer, Place, Sequence, Tries, read_run};
 use x509_fields::{X509Error, sequence_at};
+use x509_parts::list_error;
 
 #[cfg(test)]
 mod tests;
@@ -31,10 +30,12 @@ mod tests;
 /// GeneralSubtrees ::= SEQUENCE SIZE (1..MAX) OF GeneralSubtree
 /// ```
 ///
-/// Subtrees that cannot be read are absent.
+/// Subtrees that cannot be read are absent, also those behind which bytes stand in their field.
 #[derive(Debug, PartialEq, Drop)]
 pub struct NameConstraints<'a> {
+    /// Only names in these are permitted, at least one; all names where nothing is said.
     pub permitted_subtrees: Option<Sequence<GeneralSubtree<'a>>>,
+    /// Names in these are excluded, at least one; none where nothing is said.
     pub excluded_subtrees: Option<Sequence<GeneralSubtree<'a>>>,
 }
 
@@ -50,10 +51,11 @@ pub struct NameConstraints<'a> {
 /// What stands behind the base is skipped.
 #[derive(Debug, PartialEq, Drop)]
 pub struct GeneralSubtree<'a> {
+    /// The name at the root of the subtree.
     pub base: GeneralName<'a>,
 }
 
-/// Bytes behind the last field are skipped.
+/// Refused is only what is no whole SEQUENCE, and want of memory. Bytes behind the last field are skipped.
 impl<'a> FromDer<'a, X509Error> for NameConstraints<'a> {
     ghost Value = { Constraints };
 
@@ -182,10 +184,4 @@ fn subtrees_at<'a>(
         return Err(list_error(ErrorKind::Eof));
     }
     Ok((subtrees, plain))
-}
-
-fn list_error(kind: ErrorKind) -> Err<X509Error>
-    ensures { result ≡ Error (list_error kind) }
-{
-    Err::Error(X509Error::Der(BerError::NomError(kind)))
 }

@@ -1,1 +1,3 @@
 pub mod Purposes
+pub mod FormOfYear
+pub mod Comments

@@ -1,17 +1,23 @@
 -- One more purpose behind others.
-use Rattle.std.proofs.Common.{◌≡◌, ℕ, Bool, true, false, not, cond, ◌||◌, ◌⊎◌, inl, inr, ◌+◌, ◌-◌, ◌≤◌, length, sum_by, map, subst, arith, List, [], ◌∷◌, ◌++◌, if◌then◌else◌, ap, sym, refl, ◌∙◌}
-use Rattle.std.specs.List.{list_any, filter}
+use Rattle.std.proofs.Common.{◌<◌, get_or, drop, Result, Err, ◌≡◌, ℕ, Bool, true, false, not, cond, ◌||◌, ◌⊎◌, inl, inr, ◌+◌, ◌-◌, ◌≤◌, length, sum_by, map, subst, arith, List, [], ◌∷◌, ◌++◌, if◌then◌else◌, ap, sym, refl, ◌∙◌}
+use Rattle.std.specs.List.{filter}
+use Rattle.std.specs.BTreeMap.{is_at}
+use Rattle.std.specs.BTreeSet.{BTreeSet, contains}
 use Rattle.std.specs.Str.{bytes_eq}
-use Rattle.std.proofs.lemmas.List.{append-nil}
+use Rattle.std.proofs.lemmas.List.{append-nil, map-append}
+use Rattle.std.proofs.lemmas.Map.Text.{is_eq-slice_cmp}
 use Rattle.std.proofs.lemmas.List.Folds.{list_any-append}
 use Rattle.std.proofs.lemmas.List.Elements.{filter-append}
 use Rattle.std.proofs.lemmas.List.Sums.{sum_by-cons}
 use Rattle.std.proofs.lemmas.Slice.Eq.{bytes_eq-Decides}
 use Rattle.std.proofs.lemmas.Bool.Decides.{same_from_decides}
 use Rattle.x509_der.specs.declared.oid.Oid.{Oid}
+use Rattle.x509_der.specs.declared.error.Err.{Err as Refusal}
+use Rattle.x509_der.specs.declared.error.Err.TheVariants as refusals
+use Rattle.x509_der.specs.Promises.{Answers}
 use Rattle.x509_der.specs.Oid.{oid_bytes}
 use Rattle.x509_der.specs.Reading.{AddsAtLeast}
-use Rattle.x509_usages.specs.ExtendedKeyUsage.{any_purpose, purpose, named_purposes, holds, each_once, Usages, usages_in, one_if, usages_heads}
+use Rattle.x509_usages.specs.ExtendedKeyUsage.{AreBehindFirst, oid_cmp, any_purpose, purpose, named_purposes, holds, each_once, Usages, usages_in, one_if, usages_heads}
 
 or_comm : (a b : Bool) → (a || b) ≡ (b || a)
 or_comm true true = refl
@@ -126,34 +132,30 @@ flipped x c apart = go (bytes_eq c x) refl
     go false h = refl
     go true h = let is : c ≡ x = (bytes_eq-Decides c x).0 h in let both : bytes_eq x c ≡ bytes_eq x x = ap (bytes_eq x) is in let same : bytes_eq x x ≡ true = (bytes_eq-Decides x x).1 refl in absurd cc
 
--- none of those that have a flag
-pub record IsOther (x : List ℕ) : Type 0 where
-  pub any : bytes_eq x any_purpose ≡ false
-  pub server : bytes_eq x (purpose 1) ≡ false
-  pub client : bytes_eq x (purpose 2) ≡ false
-  pub code : bytes_eq x (purpose 3) ≡ false
-  pub email : bytes_eq x (purpose 4) ≡ false
-  pub time : bytes_eq x (purpose 8) ≡ false
-  pub ocsp : bytes_eq x (purpose 9) ≡ false
+either_0 : (a b : Bool) → (a || b) ≡ false → a ≡ false
+either_0 false b h = refl
+either_0 true b h = absurd cc
 
-unnamed : (a b c d e f g : Bool) → a ≡ false → b ≡ false → c ≡ false → d ≡ false → e ≡ false → f ≡ false → g ≡ false → (a || (b || (c || (d || (e || (f || (g || false))))))) ≡ false
-unnamed a b c d e f g h1 h2 h3 h4 h5 h6 h7 = rw (h1, h2, h3, h4, h5, h6, h7) refl
+either_1 : (a b : Bool) → (a || b) ≡ false → b ≡ false
+either_1 false b h = h
+either_1 true b h = absurd cc
 
 or_of : (a b : Bool) → a ≡ false → b ≡ (a || b)
 or_of a b h = rw h refl
 
-pub other : (old : Usages) (ids : List (List ℕ)) (x : List ℕ) (others : List (List ℕ)) → old ≡ usages_in ids → IsOther x → (if holds old.other x then old.other else old.other ++ x ∷ []) ≡ others
+pub other : (old : Usages) (ids : List (List ℕ)) (x : List ℕ) (others : List (List ℕ)) → old ≡ usages_in ids → holds named_purposes x ≡ false → (if holds old.other x then old.other else old.other ++ x ∷ []) ≡ others
     → usages old.any old.server_auth old.client_auth old.code_signing old.email_protection old.time_stamping old.ocsp_signing others ≡ usages_in (ids ++ x ∷ [])
-other old ids x others e is new =
+other old ids x others e none new =
+    let h1 = either_1 _ _ none in let h2 = either_1 _ _ h1 in let h3 = either_1 _ _ h2 in let h4 = either_1 _ _ h3 in let h5 = either_1 _ _ h4 in let h6 = either_1 _ _ h5 in
     same_usages _ _ _ _ _ _ _ _ _ _ _ _ _ _ _ _
-    (or_of _ old.any (flipped x any_purpose is.any))
-    (or_of _ old.server_auth (flipped x (purpose 1) is.server))
-    (or_of _ old.client_auth (flipped x (purpose 2) is.client))
-    (or_of _ old.code_signing (flipped x (purpose 3) is.code))
-    (or_of _ old.email_protection (flipped x (purpose 4) is.email))
-    (or_of _ old.time_stamping (flipped x (purpose 8) is.time))
-    (or_of _ old.ocsp_signing (flipped x (purpose 9) is.ocsp))
-    (sym new ∙ ap (λ b. if b then old.other else if holds old.other x then old.other else old.other ++ x ∷ []) (sym (unnamed _ _ _ _ _ _ _ is.any is.server is.client is.code is.email is.time is.ocsp)))
+    (or_of _ old.any (flipped x any_purpose (either_0 _ _ none)))
+    (or_of _ old.server_auth (flipped x (purpose 1) (either_0 _ _ h1)))
+    (or_of _ old.client_auth (flipped x (purpose 2) (either_0 _ _ h2)))
+    (or_of _ old.code_signing (flipped x (purpose 3) (either_0 _ _ h3)))
+    (or_of _ old.email_protection (flipped x (purpose 4) (either_0 _ _ h4)))
+    (or_of _ old.time_stamping (flipped x (purpose 8) (either_0 _ _ h5)))
+    (or_of _ old.ocsp_signing (flipped x (purpose 9) (either_0 _ _ h6)))
+    (sym new ∙ ap (λ b. if b then old.other else if holds old.other x then old.other else old.other ++ x ∷ []) (sym none))
     ∙ named old ids x x e refl
 
 -- ---- heads
@@ -251,17 +253,58 @@ least ids u old new e adds = λ small.
     let few : usages_heads u ≤ 1 + sum_by (λ id. 1) ids = subst (λ v. usages_heads v ≤ 1 + sum_by (λ id. 1) ids) (sym e) (heads_le ids) in
     omega arith
 
--- ---- tests of the code
-
-pub spelled : (x y c : List ℕ) → y ≡ x → true ≡ bytes_eq y c → x ≡ c
-spelled x y c same test = sym same ∙ (bytes_eq-Decides y c).0 (sym test)
-
-pub not_spelled : (x y c : List ℕ) → y ≡ x → false ≡ bytes_eq y c → bytes_eq x c ≡ false
-not_spelled x y c same test = ap (λ z. bytes_eq z c) (sym same) ∙ sym test
+-- ---- a list, and the set of those behind its first
 
 turned : (a b : List ℕ) → bytes_eq a b ≡ bytes_eq b a
 turned a b = same_from_decides {P = a ≡ b} (bytes_eq a b) (bytes_eq b a) (bytes_eq-Decides a b) (λ h. sym ((bytes_eq-Decides b a).0 h), λ e. (bytes_eq-Decides b a).1 (sym e))
 
-pub listed : (id : List ℕ) (list : List Oid) → list_any (λ y. bytes_eq (oid_bytes y) id) list ≡ holds (map oid_bytes list) id
-listed id [] = refl
-listed id (y ∷ ys) = ap (λ b. b || list_any (λ z. bytes_eq (oid_bytes z) id) ys) (turned (oid_bytes y) id) ∙ ap (λ b. bytes_eq id (oid_bytes y) || b) (listed id ys)
+same_key : (a b : Oid) → is_at (oid_cmp a) b ≡ bytes_eq (oid_bytes b) (oid_bytes a)
+same_key a b = is_eq-slice_cmp (oid_bytes a) (oid_bytes b) ∙ turned (oid_bytes a) (oid_bytes b)
+
+cond_or : (b c : Bool) → cond b true c ≡ (b || c)
+cond_or true c = refl
+cond_or false c = refl
+
+-- an identifier was added behind a list that lacked it
+pub record IsAdded (list new : List Oid) (id : Oid) (seen : BTreeSet Oid) : Type 0 where
+  pub listed : map oid_bytes new ≡ (if holds (map oid_bytes list) (oid_bytes id) then map oid_bytes list else map oid_bytes list ++ oid_bytes id ∷ [])
+  pub behind : AreBehindFirst new seen
+
+alone_in : (list new : List Oid) (id : Oid) (seen : BTreeSet Oid) → length list < 1 → new ≡ list ++ id ∷ [] → AreBehindFirst list seen → IsAdded list new id seen
+alone_in [] new id seen none is old = record {
+  listed = ap (map oid_bytes) is;
+  behind = λ q. old q ∙ ap (λ l. holds (map oid_bytes (drop 1 l)) (oid_bytes q)) (sym is);
+}
+alone_in (x ∷ xs) new id seen none is old = absurd (omega arith)
+
+behind_in : (list new : List Oid) (id d : Oid) (old seen : BTreeSet Oid) → 0 < length list → bytes_eq (oid_bytes (get_or list 0 d)) (oid_bytes id) ≡ false → contains oid_cmp old id ≡ false
+    → ((q : Oid) → contains oid_cmp seen q ≡ cond (is_at (oid_cmp id) q) true (contains oid_cmp old q)) → new ≡ list ++ id ∷ [] → AreBehindFirst list old → IsAdded list new id seen
+behind_in [] new id d old seen some apart absent updates is were = absurd (omega arith)
+behind_in (x ∷ xs) new id d old seen some apart absent updates is were = record {
+  listed = ap (map oid_bytes) is ∙ map-append oid_bytes (x ∷ xs) (id ∷ []) ∙ ap (λ b. if b then map oid_bytes (x ∷ xs) else map oid_bytes (x ∷ xs) ++ oid_bytes id ∷ []) (sym none);
+  behind = λ q.
+      updates q ∙ ap (λ b. cond b true (contains oid_cmp old q)) (same_key id q) ∙ ap (λ c. cond (bytes_eq (oid_bytes q) (oid_bytes id)) true c) (were q) ∙ cond_or (bytes_eq (oid_bytes q) (oid_bytes id)) (holds (map oid_bytes xs) (oid_bytes q))
+      ∙ sym (holds-append (map oid_bytes xs) (oid_bytes id) (oid_bytes q)) ∙ ap (λ l. holds l (oid_bytes q)) (sym (map-append oid_bytes xs (id ∷ []))) ∙ ap (λ l. holds (map oid_bytes (drop 1 l)) (oid_bytes q)) (sym is);
+}
+  where
+    none : holds (map oid_bytes (x ∷ xs)) (oid_bytes id) ≡ false
+    none = ap (λ b. b || holds (map oid_bytes xs) (oid_bytes id)) (turned (oid_bytes id) (oid_bytes x) ∙ apart) ∙ sym (were id) ∙ absent
+
+pub alone : (slice list new : List Oid) (id : Oid) (seen : BTreeSet Oid) → slice ≡ list → length slice < 1 → new ≡ list ++ id ∷ [] → AreBehindFirst list seen → IsAdded list new id seen
+alone slice list new id seen same none is old = alone_in list new id seen (subst (λ l. length l < 1) same none) is old
+
+not_there : (fresh there : Bool) → fresh ≡ true → fresh ≡ not there → there ≡ false
+not_there fresh false h is = refl
+not_there fresh true h is = absurd cc
+
+pub behind_others : (slice list new : List Oid) (id d : Oid) (old seen : BTreeSet Oid) (fresh : Bool) → slice ≡ list → 0 < length slice → bytes_eq (oid_bytes (get_or slice 0 d)) (oid_bytes id) ≡ false → fresh ≡ true → fresh ≡ not (contains oid_cmp old id)
+    → ((q : Oid) → contains oid_cmp seen q ≡ cond (is_at (oid_cmp id) q) true (contains oid_cmp old q)) → new ≡ list ++ id ∷ [] → AreBehindFirst list old → IsAdded list new id seen
+behind_others slice list new id d old seen fresh same some apart h is_new updates is were =
+    behind_in list new id d old seen (subst (λ l. 0 < length l) same some) (subst (λ l. bytes_eq (oid_bytes (get_or l 0 d)) (oid_bytes id) ≡ false) same apart) (not_there fresh (contains oid_cmp old id) h is_new) updates is were
+
+-- ---- the loop
+
+pub refused : {Y E : Type 0} (is_memory : E → Bool) (e : Refusal E) (r : Result Y (Refusal E)) → Answers {X = Y} is_memory false (λ y. y) (Err e) r → r ≡ Err e
+refused is_memory refusals.Incomplete r given = given
+refused is_memory (refusals.Error e) r given = given
+refused is_memory (refusals.Failure e) r given = given

@@ -1,20 +1,29 @@
 -- ExtKeyUsageSyntax ::= SEQUENCE SIZE (1..MAX) OF KeyPurposeId
 -- KeyPurposeId ::= OBJECT IDENTIFIER
 -- (RFC 5280, 4.2.1.12)
-use Rattle.std.specs.Prelude.{ℕ, ◌+◌, Bool, not, List, [], ◌∷◌, length, map, Ok, if◌then◌else◌}
+use Rattle.std.specs.Prelude.{◌≡◌, ℕ, ◌+◌, Bool, not, List, [], ◌∷◌, length, map, drop, Ok, if◌then◌else◌}
+use Rattle.std.specs.BTreeSet.{BTreeSet, contains}
+use Rattle.std.specs.Cmp.Lexicographic.{slice_cmp}
 use Rattle.std.specs.List.{list_any, filter}
+use Rattle.std.specs.declared.cmp.Ordering.{Ordering}
+use Rattle.std.specs.Ordering.{nat_cmp}
 use Rattle.std.specs.Str.{bytes_eq}
+use Rattle.x509_der.specs.declared.oid.Oid.{Oid}
+use Rattle.x509_der.specs.declared.error.Err.{Err as Refusal}
 use Rattle.x509_der.specs.declared.error.BerError.TheVariants as ber
 use Rattle.x509_der.specs.Laws.{IsMarkedElement, IsMarkedField, AtEnd}
 use Rattle.x509_der.specs.Leaves.{BerPlan, oid}
 use Rattle.x509_der.specs.Oid.{oid_bytes}
-use Rattle.x509_der.specs.Plan.{mapped, run, to_end}
+use Rattle.x509_der.specs.Plan.{Outcome, got, members, mapped, run, to_end}
 use Rattle.x509_der.specs.Promises.{is_ber_memory, ended_early}
 use Rattle.x509_der.proofs.Marking.{marked, mapped_marked}
+use Rattle.x509_fields.specs.declared.error.X509Error.{X509Error}
 use Rattle.x509_fields.specs.Errors.{is_x509_memory}
 use Rattle.x509_fields.specs.Fields.{Field, lifted, sequence, as_x509_renames}
 use Rattle.x509_usages.specs.declared.extended_key_usage.KeyPurpose.{KeyPurpose}
 use Rattle.x509_usages.specs.declared.extended_key_usage.ExtendedKeyUsage.{ExtendedKeyUsage}
+use Rattle.x509_usages.specs.declared.extended_key_usage.Flag.{Flag}
+use Rattle.x509_usages.specs.declared.extended_key_usage.Flag.TheVariants as flags
 
 -- ---- key purposes, by their octets
 
@@ -30,10 +39,23 @@ purpose n = 0x2b ∷ 0x06 ∷ 0x01 ∷ 0x05 ∷ 0x05 ∷ 0x07 ∷ 0x03 ∷ n ∷
 abbrev pub named_purposes : List (List ℕ)
 named_purposes = any_purpose ∷ purpose 1 ∷ purpose 2 ∷ purpose 3 ∷ purpose 4 ∷ purpose 8 ∷ purpose 9 ∷ []
 
+abbrev pub octets_of : Flag → List ℕ
+octets_of flags.Any = any_purpose
+octets_of flags.ServerAuth = purpose 1
+octets_of flags.ClientAuth = purpose 2
+octets_of flags.CodeSigning = purpose 3
+octets_of flags.EmailProtection = purpose 4
+octets_of flags.TimeStamping = purpose 8
+octets_of flags.OcspSigning = purpose 9
+
 -- ---- the value
 
 abbrev pub holds : List (List ℕ) → List ℕ → Bool
 holds ids id = list_any (bytes_eq id) ids
+
+-- identifiers in the order of their octets
+abbrev pub oid_cmp : Oid → Oid → Ordering
+oid_cmp a b = slice_cmp nat_cmp (oid_bytes a) (oid_bytes b)
 
 -- each identifier once, in the order in which they are first seen
 abbrev pub each_once : List (List ℕ) → List (List ℕ)
@@ -78,6 +100,10 @@ usages_of u = record {
   other = map oid_bytes u.other;
 }
 
+-- the set has the identifiers of a list behind its first
+abbrev pub AreBehindFirst : List Oid → BTreeSet Oid → Type 0
+AreBehindFirst list set = (id : Oid) → contains oid_cmp set id ≡ holds (map oid_bytes (drop 1 list)) (oid_bytes id)
+
 -- ---- the grammar
 
 unfoldable pub key_purpose : BerPlan (List ℕ)
@@ -85,6 +111,10 @@ key_purpose = oid
 
 unfoldable pub key_purpose_run : BerPlan (List (List ℕ))
 key_purpose_run = to_end (ended_early ber.NomError) (run key_purpose)
+
+-- what the longest run of purposes says, and what stands behind it
+abbrev pub said_at : List ℕ → Outcome (Refusal X509Error) Usages
+said_at place = got (usages_in (members key_purpose place).1) (members key_purpose place).0
 
 -- the identifiers, to the end; there may be none
 unfoldable pub key_purposes : Field (List (List ℕ))

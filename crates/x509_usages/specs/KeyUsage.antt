@@ -15,7 +15,7 @@ use Rattle.x509_der.specs.Leaves.{bits}
 use Rattle.x509_der.proofs.Marking.{marked}
 use Rattle.x509_fields.specs.Errors.{is_x509_memory}
 use Rattle.x509_fields.specs.Fields.{Field, lifted, as_x509_renames}
-use Rattle.x509_flags.specs.NamedBits.{named_bits, named_bits_marked}
+use Rattle.x509_parts.specs.NamedBits.{named_bits, named_bits_marked}
 use Rattle.x509_usages.specs.declared.key_usage.KeyUsage.{KeyUsage}
 
 -- ---- the value

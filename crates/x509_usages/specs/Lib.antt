@@ -1,4 +1,3 @@
-pub mod KeyIdentifier
 pub mod KeyUsage
 pub mod InhibitAnyPolicy
 pub mod BasicConstraints
@@ -6,3 +5,8 @@ pub mod PolicyConstraints
 pub mod PolicyMapping
 pub mod Policies
 pub mod ExtendedKeyUsage
+pub mod CrlNumber
+pub mod ReasonCode
+pub mod InvalidityDate
+pub mod NsCertType
+pub mod NsComment

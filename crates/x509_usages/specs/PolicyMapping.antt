@@ -3,7 +3,8 @@
 --     subjectDomainPolicy  CertPolicyId }
 -- CertPolicyId ::= OBJECT IDENTIFIER
 -- (RFC 5280, 4.2.1.5)
-use Rattle.std.specs.Prelude.{ℕ, ◌+◌, List, map, sum_by}
+use Rattle.std.specs.Prelude.{ℕ, ◌+◌, List, Option, map, sum_by}
+use Rattle.x509_der.specs.declared.oid.Oid.{Oid}
 use Rattle.x509_der.specs.declared.error.BerError.TheVariants as ber
 use Rattle.x509_der.specs.Laws.{IsMarkedElement, IsMarkedField, AtEnd}
 use Rattle.x509_der.specs.Leaves.{BerPlan, oid, sequence as sequence_contents}
@@ -13,6 +14,7 @@ use Rattle.x509_der.specs.Promises.{is_ber_memory, ended_early}
 use Rattle.x509_der.proofs.Marking.{marked}
 use Rattle.x509_fields.specs.Errors.{is_x509_memory}
 use Rattle.x509_fields.specs.Fields.{Field, lifted, sequence, as_x509_renames}
+use Rattle.x509_parts.specs.Groups.{grouped}
 use Rattle.x509_usages.specs.declared.policy_mapping.PolicyMapping.{PolicyMapping}
 use Rattle.x509_usages.specs.declared.policy_mapping.PolicyMappings.{PolicyMappings}
 
@@ -65,3 +67,9 @@ policy_mapping_list_laws = search (marked, policy_mapping_laws) depth 40
 pub policy_mappings_laws : IsMarkedElement is_x509_memory policy_mappings
 unfolding policy_mappings
 policy_mappings_laws = search (marked, as_x509_renames, policy_mapping_list_laws) depth 40
+
+-- ---- maps
+
+-- the subject policies of an issuer policy, in source order; none where it has no mapping
+abbrev pub subjects : List PolicyMapping → Oid → Option (List Oid)
+subjects mappings issuer = grouped (λ m. m.issuer_domain_policy) (λ m. m.subject_domain_policy) mappings issuer

@@ -1,32 +1,19 @@
 //! What a key may be used for, by identifiers.
 
-ghost use Rattle.std.specs.Prelude.{◌≡◌, ℕ, List, [], ◌∷◌, ◌++◌, MatchResult, map, false, true, if◌then◌else◌};
+ghost use Rattle.std.specs.Prelude.{◌≡◌, ℕ, List, [], ◌∷◌, ◌++◌, ◌+◌, ◌-◌, ◌*◌, ◌≤◌, IfOk, OnOk, MatchOption, MatchResult, length, map, false, true, if◌then◌else◌};
 ghost use Rattle.x509_der.specs.Oid.{oid_bytes};
+ghost use Rattle.x509_der.specs.Plan.{marks_of_members};
 ghost use Rattle.x509_der.specs.Primitives.{is_constructed, is_primitive};
-ghost use Rattle.x509_der.specs.Promises.{is_excused};
-ghost use Rattle.x509_der.specs.Reading.{strict};
+ghost use Rattle.x509_der.specs.Promises.{Answers, is_excused};
+ghost use Rattle.x509_der.specs.Reading.{AddsAtLeast, strict};
 ghost use Rattle.x509_fields.specs.Errors.{is_x509_memory};
-ghost use Rattle.x509_usages.specs.ExtendedKeyUsage.{Usages, holds, usages_in, usages_of, usages_heads, key_purpose_of, key_purpose, key_purpose_laws, extended_key_usage, extended_key_usage_laws};
+ghost use Rattle.x509_usages.specs.ExtendedKeyUsage.{AreBehindFirst, Usages, named_purposes, octets_of, holds, usages_in, usages_of, usages_heads, key_purpose_of, key_purpose, key_purpose_laws, said_at, extended_key_usage, extended_key_usage_laws};
 
 use std::alloc::Global;
-use x509_der::{BerError, Err, FromDer, Oid, Place, Sequence, Tries, read_to_end};
+use std::collections::BTreeSet;
+use x509_der::{BerError, Err, ErrorKind, FromDer, Oid, Place, Sequence, Tries};
 use x509_fields::{X509Error, sequence_at};
-
-// 2.5.29.37.0
-const ANY: &[u8] = &[0x55, 0x1d, 0x25, 0x00];
-
-// 1.3.6.1.5.5.7.3.n
-const SERVER_AUTH: &[u8] = &[0x2b, 0x06, 0x01, 0x05, 0x05, 0x07, 0x03, 1];
-
-const CLIENT_AUTH: &[u8] = &[0x2b, 0x06, 0x01, 0x05, 0x05, 0x07, 0x03, 2];
-
-const CODE_SIGNING: &[u8] = &[0x2b, 0x06, 0x01, 0x05, 0x05, 0x07, 0x03, 3];
-
-const EMAIL_PROTECTION: &[u8] = &[0x2b, 0x06, 0x01, 0x05, 0x05, 0x07, 0x03, 4];
-
-const TIME_STAMPING: &[u8] = &[0x2b, 0x06, 0x01, 0x05, 0x05, 0x07, 0x03, 8];
-
-const OCSP_SIGNING: &[u8] = &[0x2b, 0x06, 0x01, 0x05, 0x05, 0x07, 0x03, 9];
+use x509_parts::list_error;
 
 #[derive(Clone, Copy)]
 pub(crate) struct KeyPurpose<'a> {
@@ -95,40 +82,99 @@ pub struct ExtendedKeyUsage<'a> {
     pub other: Sequence<Oid<'a>>,
 }
 
-impl<'a> ExtendedKeyUsage<'a> {
-    // Adds a purpose behind others.
-    fn add(&mut self, id: Oid<'a>) -> Result<(), Err<X509Error>>
-        ensures { (ids : List (List ℕ)) → usages_of self.old ≡ usages_in ids
-            → MatchResult result (λ _. usages_of self.new ≡ usages_in (ids ++ oid_bytes id.entry ∷ [])) (λ e. is_excused is_x509_memory true e ≡ true) }
+// The purposes that have a flag.
+#[derive(Clone, Copy)]
+enum Flag {
+    Any,
+    ServerAuth,
+    ClientAuth,
+    CodeSigning,
+    EmailProtection,
+    TimeStamping,
+    OcspSigning,
+}
+
+impl Flag {
+    // The flag of the purpose with this identifier; none where it has none.
+    fn of(octets: &[u8]) -> Option<Flag>
+        ensures { MatchOption result (holds named_purposes octets.now ≡ false) (λ f. octets.now ≡ octets_of f) }
     {
-        let octets = id.as_bytes();
-        if octets == ANY {
-            self.any = true;
-        } else if octets == SERVER_AUTH {
-            self.server_auth = true;
-        } else if octets == CLIENT_AUTH {
-            self.client_auth = true;
-        } else if octets == CODE_SIGNING {
-            self.code_signing = true;
-        } else if octets == EMAIL_PROTECTION {
-            self.email_protection = true;
-        } else if octets == TIME_STAMPING {
-            self.time_stamping = true;
-        } else if octets == OCSP_SIGNING {
-            self.ocsp_signing = true;
-        } else {
-            list_once(&mut self.other, id)?;
+        match octets {
+            // 2.5.29.37.0
+            [0x55, 0x1d, 0x25, 0] => Some(Flag::Any),
+            // 1.3.6.1.5.5.7.3
+            [0x2b, 6, 1, 5, 5, 7, 3, arc] => match arc {
+                1 => Some(Flag::ServerAuth),
+                2 => Some(Flag::ClientAuth),
+                3 => Some(Flag::CodeSigning),
+                4 => Some(Flag::EmailProtection),
+                8 => Some(Flag::TimeStamping),
+                9 => Some(Flag::OcspSigning),
+                _ => None,
+            },
+            _ => None,
+        }
+    }
+}
+
+impl<'a> ExtendedKeyUsage<'a> {
+    // Not for any purpose.
+    fn none(alloc: Global) -> Self
+        ensures says { usages_of result ≡ usages_in [] }
+        ensures other { result.other ≡ [] }
+    {
+        ExtendedKeyUsage {
+            any: false,
+            server_auth: false,
+            client_auth: false,
+            code_signing: false,
+            email_protection: false,
+            time_stamping: false,
+            ocsp_signing: false,
+            other: Sequence::new(alloc),
+        }
+    }
+
+    // Adds a purpose behind others.
+    fn add(&mut self, seen: &mut BTreeSet<Oid<'a>>, id: Oid<'a>) -> Result<(), Err<X509Error>>
+        requires { AreBehindFirst self.old.other seen.old }
+        ensures said { (ids : List (List ℕ)) → usages_of self.old ≡ usages_in ids
+            → MatchResult result (λ _. usages_of self.new ≡ usages_in (ids ++ oid_bytes id.entry ∷ [])) (λ e. is_excused is_x509_memory true e ≡ true) }
+        ensures seen { OnOk result (AreBehindFirst self.new.other seen.new) }
+    {
+        match Flag::of(id.as_bytes()) {
+            Some(Flag::Any) => self.any = true,
+            Some(Flag::ServerAuth) => self.server_auth = true,
+            Some(Flag::ClientAuth) => self.client_auth = true,
+            Some(Flag::CodeSigning) => self.code_signing = true,
+            Some(Flag::EmailProtection) => self.email_protection = true,
+            Some(Flag::TimeStamping) => self.time_stamping = true,
+            Some(Flag::OcspSigning) => self.ocsp_signing = true,
+            None => list_once(&mut self.other, seen, id)?,
         }
         Ok(())
     }
 }
 
-// Adds an identifier where it is not listed yet.
-fn list_once<'a>(list: &mut Sequence<Oid<'a>>, id: Oid<'a>) -> Result<(), Err<X509Error>>
-    ensures { MatchResult result (λ _. map oid_bytes list.new ≡ (if holds (map oid_bytes list.old) (oid_bytes id.entry) then map oid_bytes list.old else map oid_bytes list.old ++ oid_bytes id.entry ∷ [])) (λ e. is_excused is_x509_memory true e ≡ true) }
+// Adds an identifier where it is not listed yet. Those behind the first are in `seen`, so one alone needs no set.
+fn list_once<'a>(
+    list: &mut Sequence<Oid<'a>>,
+    seen: &mut BTreeSet<Oid<'a>>,
+    id: Oid<'a>,
+) -> Result<(), Err<X509Error>>
+    requires { AreBehindFirst list.old seen.old }
+    ensures list { MatchResult result (λ _. map oid_bytes list.new ≡ (if holds (map oid_bytes list.old) (oid_bytes id.entry) then map oid_bytes list.old else map oid_bytes list.old ++ oid_bytes id.entry ∷ [])) (λ e. is_excused is_x509_memory true e ≡ true) }
+    ensures seen { OnOk result (AreBehindFirst list.new seen.new) }
 {
-    if is_listed(list.as_slice(), &id) {
-        return Ok(());
+    if let [first, ..] = list.as_slice() {
+        if *first == id {
+            return Ok(());
+        }
+        match seen.insert(id) {
+            Ok(true) => {}
+            Ok(false) => return Ok(()),
+            Err(_) => return Err(Err::out_of_memory()),
+        }
     }
     if list.push(id).is_err() {
         return Err(Err::out_of_memory());
@@ -136,33 +182,28 @@ fn list_once<'a>(list: &mut Sequence<Oid<'a>>, id: Oid<'a>) -> Result<(), Err<X5
     Ok(())
 }
 
-fn is_listed(list: &[Oid<'_>], id: &Oid<'_>) -> bool
-    ensures { result ≡ holds (map oid_bytes list.now) (oid_bytes id.now) }
-{
-    list.contains(id)
-}
-
-// What these purposes say.
-fn usage_of<'a>(
+// What the longest run of purposes at the front says, what stands behind it, and whether all of them stand plainly.
+fn read_purposes<'a>(
     alloc: Global,
-    purposes: &[KeyPurpose<'a>],
-) -> Result<ExtendedKeyUsage<'a>, Err<X509Error>>
-    ensures { MatchResult result (λ u. usages_of u ≡ usages_in (map key_purpose_of purposes.now)) (λ e. is_excused is_x509_memory true e ≡ true) }
+    tries: &mut Tries,
+    i: &'a [u8],
+) -> Result<(&'a [u8], ExtendedKeyUsage<'a>, bool), Err<X509Error>>
+    ensures reads { Answers is_x509_memory true (λ x. (x.0.now, usages_of x.1)) result (said_at i.now) }
+    ensures marks { IfOk result (λ x. x.2 ≡ marks_of_members key_purpose i.now) }
+    ensures grows { tries.old ≤ tries.new }
+    ensures count { tries.new ≤ tries.old + 8 * length i.now }
+    ensures least { IfOk result (λ x. AddsAtLeast (usages_heads (usages_of x.1) - 1) tries.old tries.new) }
 {
-    let mut usage = ExtendedKeyUsage {
-        any: false,
-        server_auth: false,
-        client_auth: false,
-        code_signing: false,
-        email_protection: false,
-        time_stamping: false,
-        ocsp_signing: false,
-        other: Sequence::new(alloc),
-    };
-    for purpose in purposes {
-        usage.add(purpose.id)?;
+    let mut usage = ExtendedKeyUsage::none(alloc);
+    let mut seen = BTreeSet::new(alloc);
+    let mut rest = i;
+    let mut plain = true;
+    while let Ok((after, purpose, marked)) = KeyPurpose::read_marked(alloc, tries, rest) {
+        usage.add(&mut seen, purpose.id)?;
+        plain &= marked;
+        rest = after;
     }
-    Ok(usage)
+    Ok((rest, usage, plain))
 }
 
 impl<'a> FromDer<'a, X509Error> for ExtendedKeyUsage<'a> {
@@ -191,10 +232,10 @@ impl<'a> FromDer<'a, X509Error> for ExtendedKeyUsage<'a> {
         place: &Place<'a>,
     ) -> Result<(Self, bool), Err<X509Error>> {
         let contents = sequence_at(place)?;
-        let (purposes, plain) = read_to_end::<BerError, KeyPurpose<'a>>(
-            alloc, tries, contents,
-        ).map_err(|e| e.convert())?;
-        let usage = usage_of(alloc, purposes.as_slice())?;
+        let (rest, usage, plain) = read_purposes(alloc, tries, contents)?;
+        if !rest.is_empty() {
+            return Err(list_error(ErrorKind::Eof));
+        }
         Ok((usage, plain))
     }
 

@@ -3,15 +3,15 @@
 ghost use Rattle.std.specs.Prelude.{◌≡◌, ℕ, Some, false};
 ghost use Rattle.x509_der.specs.Primitives.{is_primitive};
 ghost use Rattle.x509_der.specs.Reading.{strict};
-ghost use Rattle.x509_flags.specs.Flags.{has_bit};
-ghost use Rattle.x509_flags.specs.Texts.{flags_text};
+ghost use Rattle.x509_parts.specs.Flags.{has_bit};
+ghost use Rattle.x509_parts.specs.Texts.{flags_text};
 ghost use Rattle.x509_usages.specs.KeyUsage.{key_usage_of, key_usage, key_usage_names, key_usage_laws};
 
 use std::alloc::Global;
 use std::fmt;
 use x509_der::{Err, FromDer, Place, Tries};
 use x509_fields::X509Error;
-use x509_flags::{FlagNames, flags_of, is_set};
+use x509_parts::{FlagNames, flags_of, is_set};
 
 /// What a key may be used for (RFC 5280, section 4.2.1.3).
 ///

@@ -1,14 +1,20 @@
 //! Policies that two authorities hold for equivalent.
 
-ghost use Rattle.std.specs.Prelude.{◌≡◌, List, false, true};
+ghost use Rattle.std.specs.Prelude.{◌≡◌, List, IfErr, IfOk, false, true};
+ghost use Rattle.x509_der.specs.declared.oid.Oid.{Oid as OidOf};
 ghost use Rattle.x509_der.specs.Oid.{oid_bytes};
 ghost use Rattle.x509_der.specs.Primitives.{is_constructed};
 ghost use Rattle.x509_der.specs.Reading.{strict};
-ghost use Rattle.x509_usages.specs.PolicyMapping.{PolicyMappingValue, policy_mapping_of, policy_mapping, policy_mapping_heads, policy_mapping_laws, policy_mappings_of, policy_mappings, policy_mappings_heads, policy_mappings_laws};
+ghost use Rattle.x509_fields.specs.declared.error.X509Error.TheVariants.{OutOfMemory};
+ghost use Rattle.x509_parts.specs.Groups.{held, pointed};
+ghost use Rattle.x509_usages.specs.PolicyMapping.{PolicyMappingValue, policy_mapping_of, policy_mapping, policy_mapping_heads, policy_mapping_laws, policy_mappings_of, policy_mappings, policy_mappings_heads, policy_mappings_laws, subjects};
 
 use std::alloc::Global;
+use std::collections::HashMap;
+use std::hash::BuildHasher;
 use x509_der::{BerError, Err, FromDer, Oid, Place, Sequence, Tries, Two, read_to_end};
 use x509_fields::{X509Error, sequence_at};
+use x509_parts::add_to_group;
 
 /// A policy of the issuer, and the subject's that it holds for equivalent (RFC 5280, section 4.2.1.5).
 ///
@@ -89,6 +95,60 @@ impl<'a> FromDer<'a, BerError> for PolicyMapping<'a> {
 pub struct PolicyMappings<'a> {
     /// The mappings, in the order in which they stand.
     pub mappings: Sequence<PolicyMapping<'a>>,
+}
+
+impl<'a> PolicyMappings<'a> {
+    /// The subject policies of each issuer policy, in source order, under the issuer policy.
+    ///
+    /// # Errors
+    ///
+    /// `OutOfMemory`.
+    #[tactic(auto, using(x509_parts::proofs::Grouped::grouping))]
+    pub fn as_hashmap<S: BuildHasher + Drop>(
+        &self,
+        alloc: Global,
+        hasher: S,
+    ) -> Result<HashMap<Oid<'a>, Vec<&Oid<'a>>, S>, X509Error>
+        ensures groups { IfOk result (λ m. (issuer : OidOf) → pointed (held m issuer) ≡ subjects self.now.mappings issuer) }
+        ensures err { IfErr result (λ e. e ≡ OutOfMemory) }
+    {
+        let mut map = HashMap::with_hasher(alloc, hasher);
+        for mapping in self.mappings.as_slice() {
+            add_to_group(
+                alloc,
+                &mut map,
+                mapping.issuer_domain_policy,
+                &mapping.subject_domain_policy,
+            )?;
+        }
+        Ok(map)
+    }
+
+    /// The subject policies of each issuer policy, in source order, under the issuer policy.
+    ///
+    /// # Errors
+    ///
+    /// `OutOfMemory`; then the mappings are gone.
+    #[tactic(auto, using(x509_parts::proofs::Grouped::grouping))]
+    pub fn into_hashmap<S: BuildHasher + Drop>(
+        self,
+        alloc: Global,
+        hasher: S,
+    ) -> Result<HashMap<Oid<'a>, Vec<Oid<'a>>, S>, X509Error>
+        ensures groups { IfOk result (λ m. (issuer : OidOf) → held m issuer ≡ subjects self.entry.mappings issuer) }
+        ensures err { IfErr result (λ e. e ≡ OutOfMemory) }
+    {
+        let mut map = HashMap::with_hasher(alloc, hasher);
+        for mapping in self.mappings.into_vec() {
+            add_to_group(
+                alloc,
+                &mut map,
+                mapping.issuer_domain_policy,
+                mapping.subject_domain_policy,
+            )?;
+        }
+        Ok(map)
+    }
 }
 
 impl<'a> FromDer<'a, X509Error> for PolicyMappings<'a> {

@@ -84,3 +84,42 @@ fn an_invalid_name_is_not_plain(rt: HostRuntime) -> Result<(), Fail> {
     assert!(rt; !plain);
     Ok(())
 }
+
+// A directory name, and a host.
+const NAMES: &[u8] =
+    b"\x30\x14\xA4\x0F\x30\x0D\x31\x0B\x30\x09\x06\x03\x55\x04\x03\x0C\x02ab\x82\x01a";
+
+fn is_directory(name: &GeneralName<'_>) -> bool {
+    let GeneralName::DirectoryName(name) = name else {
+        return false;
+    };
+    let mut attributes = name.iter_attributes();
+    match attributes.next() {
+        Some(attribute) => matches!(attribute.as_slice(), b"ab") && attributes.next().is_none(),
+        None => false,
+    }
+}
+
+#[test]
+fn a_directory_name_of_a_subject(rt: HostRuntime) -> Result<(), Fail> {
+    let (rest, read) = SubjectAlternativeName::from_der(rt.alloc(), NAMES)?;
+    assert!(rt; rest.is_empty());
+    let [first, second] = read.general_names.as_slice() else {
+        return Err(Fail::from("not two names"));
+    };
+    assert!(rt; is_directory(first));
+    assert!(rt; matches!(second, GeneralName::DNSName("a")));
+    Ok(())
+}
+
+#[test]
+fn a_directory_name_of_an_issuer(rt: HostRuntime) -> Result<(), Fail> {
+    let (rest, read) = IssuerAlternativeName::from_der(rt.alloc(), NAMES)?;
+    assert!(rt; rest.is_empty());
+    let [first, second] = read.general_names.as_slice() else {
+        return Err(Fail::from("not two names"));
+    };
+    assert!(rt; is_directory(first));
+    assert!(rt; matches!(second, GeneralName::DNSName("a")));
+    Ok(())
+}

@@ -98,3 +98,25 @@ fn the_sequence_itself(rt: HostRuntime) -> Result<(), Fail> {
     );
     Ok(())
 }
+
+// A permitted directory name, and an excluded host.
+const BOTH: &[u8] =
+    b"\x30\x1C\xA0\x13\x30\x11\xA4\x0F\x30\x0D\x31\x0B\x30\x09\x06\x03\x55\x04\x03\x0C\x02ab\xA1\x05\x30\x03\x82\x01b";
+
+#[test]
+fn a_permitted_directory_name(rt: HostRuntime) -> Result<(), Fail> {
+    let (_, constraints) = NameConstraints::from_der(rt.alloc(), BOTH)?;
+    let permitted = constraints
+        .permitted_subtrees
+        .ok_or("nothing is permitted")?;
+    let [subtree] = permitted.as_slice() else {
+        return Err(Fail::from("not one name"));
+    };
+    assert!(rt; matches!(subtree.base, GeneralName::DirectoryName(_)));
+    let excluded = constraints.excluded_subtrees.ok_or("nothing is excluded")?;
+    let [subtree] = excluded.as_slice() else {
+        return Err(Fail::from("not one name"));
+    };
+    assert!(rt; matches!(subtree.base, GeneralName::DNSName("b")));
+    Ok(())
+}

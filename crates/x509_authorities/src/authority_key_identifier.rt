@@ -1,0 +1,86 @@
+//! Which key of an issuer signed.
+
+ghost use Rattle.std.specs.Prelude.{true};
+ghost use Rattle.x509_der.specs.Primitives.{is_constructed};
+ghost use Rattle.x509_der.specs.Reading.{strict};
+ghost use Rattle.x509_authorities.specs.AuthorityKeyIdentifier.{AuthorityKeyIdentifierValue, authority_key_identifier_of, authority_key_identifier, authority_key_identifier_heads, authority_key_identifier_laws};
+
+use crate::implicit_names::soft_names_at;
+use crate::key_identifier::KeyIdentifier;
+use std::alloc::Global;
+use x509_der::{Elements, Err, FromDer, Place, Sequence, Tries};
+use x509_fields::{X509Error, sequence_at};
+use x509_general_names::GeneralName;
+
+#[cfg(test)]
+mod tests;
+
+/// Which key of an issuer signed (RFC 5280, section 4.2.1.1).
+///
+/// ```text
+/// AuthorityKeyIdentifier ::= SEQUENCE {
+///     keyIdentifier              [0]  KeyIdentifier            OPTIONAL,
+///     authorityCertIssuer        [1]  GeneralNames             OPTIONAL,
+///     authorityCertSerialNumber  [2]  CertificateSerialNumber  OPTIONAL }
+/// ```
+///
+/// A field that cannot be read is absent, and every later field is looked for where it stands.
+#[derive(Debug, PartialEq, Drop)]
+pub struct AuthorityKeyIdentifier<'a> {
+    /// The identifier of the key.
+    pub key_identifier: Option<KeyIdentifier<'a>>,
+    /// Who issued the certificate of that key: the names at the front of the field, which may be none; what stands behind
+    /// them in it is skipped.
+    pub authority_cert_issuer: Option<Sequence<GeneralName<'a>>>,
+    /// The serial number of the certificate of that key: its octets as they stand, which are not looked at.
+    pub authority_cert_serial: Option<&'a [u8]>,
+}
+
+/// Refused is only what is no whole SEQUENCE, and want of memory. Bytes behind the last field are skipped.
+impl<'a> FromDer<'a, X509Error> for AuthorityKeyIdentifier<'a> {
+    ghost Value = { AuthorityKeyIdentifierValue };
+
+    ghost view = { authority_key_identifier_of };
+
+    ghost plan = { authority_key_identifier };
+
+    ghost laws = { authority_key_identifier_laws.laws.lawful };
+
+    ghost marked = { authority_key_identifier_laws.marked };
+
+    ghost form = { strict };
+
+    ghost own_tag = { is_constructed 16 };
+
+    ghost heads = { authority_key_identifier_heads };
+
+    ghost takes_memory = { true };
+
+    #[tactic(auto, unfolding(crate::specs::AuthorityKeyIdentifier::authority_key_identifier), using(x509_der::proofs::Marking::marks_of_readers))]
+    fn read_at(
+        alloc: Global,
+        tries: &mut Tries,
+        place: &Place<'a>,
+    ) -> Result<(Self, bool), Err<X509Error>> {
+        let contents = sequence_at(place)?;
+        let children: Elements<'_, 3> = Elements::cut(tries, contents);
+        let (k, key_identifier) = match children.at(0).implicit(0) {
+            Ok(octets) => (1, Some(KeyIdentifier(octets))),
+            Err(_) => (0, None),
+        };
+        let (k, authority_cert_issuer, plain) = soft_names_at(alloc, tries, &children, k, 1)?;
+        let (k, authority_cert_serial) = match children.at(k).implicit(2) {
+            Ok(octets) => (k + 1, Some(octets)),
+            Err(_) => (k, None),
+        };
+        let tail = children.at(k);
+        let identifier = AuthorityKeyIdentifier {
+            key_identifier,
+            authority_cert_issuer,
+            authority_cert_serial,
+        };
+        Ok((identifier, plain & tail.bytes().is_empty()))
+    }
+
+    ghost never_memory = { authority_key_identifier_laws.laws.never_memory };
+}

@@ -1,0 +1,143 @@
+//! Where lists of revoked certificates are found.
+
+ghost use Rattle.std.specs.Prelude.{◌≡◌, List, true};
+ghost use Rattle.x509_der.specs.Primitives.{is_constructed};
+ghost use Rattle.x509_der.specs.Reading.{strict};
+ghost use Rattle.x509_authorities.specs.DistributionPoints.{Point, point_of, points_of, crl_distribution_point, crl_distribution_points, point_heads, points_heads, crl_distribution_point_laws, crl_distribution_points_laws};
+
+use crate::distribution_point_name::DistributionPointName;
+use crate::implicit_names::soft_some_names_at;
+use crate::reason_flags::{ReasonFlags, reasons_at};
+use std::alloc::Global;
+use x509_der::{Elements, Err, ErrorKind, FromDer, Place, Sequence, Tries, read_run, soft_at};
+use x509_fields::{X509Error, sequence_at};
+use x509_general_names::GeneralName;
+use x509_parts::list_error;
+
+#[cfg(test)]
+mod tests;
+
+/// Where a list of revoked certificates is found, which reasons it covers, and who issues it (RFC 5280, section 4.2.1.13).
+///
+/// ```text
+/// DistributionPoint ::= SEQUENCE {
+///     distributionPoint  [0]  DistributionPointName OPTIONAL,
+///     reasons            [1]  ReasonFlags OPTIONAL,
+///     cRLIssuer          [2]  GeneralNames OPTIONAL }
+/// ```
+///
+/// A field that cannot be read is absent, and every later field is looked for where it stands: where `[0]` stands and cannot
+/// be read, all three are absent.
+#[derive(Debug, PartialEq, Drop)]
+pub struct CRLDistributionPoint<'a> {
+    /// Where the list is found.
+    pub distribution_point: Option<DistributionPointName<'a>>,
+    /// The reasons that the list covers; all where nothing is said.
+    pub reasons: Option<ReasonFlags>,
+    /// Who issues the list; the certificate's issuer where nothing is said. At least one name; what stands behind the last
+    /// one in the field is skipped.
+    pub crl_issuer: Option<Sequence<GeneralName<'a>>>,
+}
+
+/// Refused is only what is no whole SEQUENCE, and want of memory. Bytes behind the last field are skipped.
+impl<'a> FromDer<'a, X509Error> for CRLDistributionPoint<'a> {
+    ghost Value = { Point };
+
+    ghost view = { point_of };
+
+    ghost plan = { crl_distribution_point };
+
+    ghost laws = { crl_distribution_point_laws.laws.lawful };
+
+    ghost marked = { crl_distribution_point_laws.marked };
+
+    ghost form = { strict };
+
+    ghost own_tag = { is_constructed 16 };
+
+    ghost heads = { point_heads };
+
+    ghost takes_memory = { true };
+
+    #[tactic(auto, unfolding(crate::specs::DistributionPoints::crl_distribution_point), using(x509_der::proofs::Marking::marks_of_readers))]
+    fn read_at(
+        alloc: Global,
+        tries: &mut Tries,
+        place: &Place<'a>,
+    ) -> Result<(Self, bool), Err<X509Error>> {
+        let contents = sequence_at(place)?;
+        let children: Elements<'_, 3> = Elements::cut(tries, contents);
+        let (k, distribution_point, first) = soft_at(alloc, tries, &children, 0)?;
+        let (k, reasons) = match reasons_at(&children.at(k), 1) {
+            Ok(reasons) => (k + 1, Some(reasons)),
+            Err(_) => (k, None),
+        };
+        let (k, crl_issuer, third) = soft_some_names_at(alloc, tries, &children, k, 2)?;
+        let tail = children.at(k);
+        let point = CRLDistributionPoint {
+            distribution_point,
+            reasons,
+            crl_issuer,
+        };
+        Ok((point, first & third & tail.bytes().is_empty()))
+    }
+
+    ghost never_memory = { crl_distribution_point_laws.laws.never_memory };
+}
+
+/// Where lists of revoked certificates are found (RFC 5280, section 4.2.1.13).
+///
+/// ```text
+/// CRLDistributionPoints ::= SEQUENCE SIZE (1..MAX) OF DistributionPoint
+/// ```
+#[derive(Debug, PartialEq, Drop)]
+pub struct CRLDistributionPoints<'a> {
+    /// The points, in order.
+    pub points: Sequence<CRLDistributionPoint<'a>>,
+}
+
+impl<'a> CRLDistributionPoints<'a> {
+    /// The points, in order.
+    pub fn points(&self) -> &[CRLDistributionPoint<'a>]
+        ensures { result.now ≡ self.now.points }
+    {
+        self.points.as_slice()
+    }
+}
+
+/// The points fill the SEQUENCE, which may be empty; else they are `Error(Der(NomError(Eof)))`.
+impl<'a> FromDer<'a, X509Error> for CRLDistributionPoints<'a> {
+    ghost Value = { List Point };
+
+    ghost view = { points_of };
+
+    ghost plan = { crl_distribution_points };
+
+    ghost laws = { crl_distribution_points_laws.laws.lawful };
+
+    ghost marked = { crl_distribution_points_laws.marked };
+
+    ghost form = { strict };
+
+    ghost own_tag = { is_constructed 16 };
+
+    ghost heads = { points_heads };
+
+    ghost takes_memory = { true };
+
+    #[tactic(auto, unfolding(crate::specs::DistributionPoints::crl_distribution_points), using(x509_der::proofs::Marking::marks_of_readers))]
+    fn read_at(
+        alloc: Global,
+        tries: &mut Tries,
+        place: &Place<'a>,
+    ) -> Result<(Self, bool), Err<X509Error>> {
+        let contents = sequence_at(place)?;
+        let (rest, points, plain) = read_run(alloc, tries, contents)?;
+        if !rest.is_empty() {
+            return Err(list_error(ErrorKind::Eof));
+        }
+        Ok((CRLDistributionPoints { points }, plain))
+    }
+
+    ghost never_memory = { crl_distribution_points_laws.laws.never_memory };
+}

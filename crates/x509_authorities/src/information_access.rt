@@ -1,0 +1,329 @@
+//! Where more about an issuer or a subject is found.
+
+ghost use Rattle.std.specs.Prelude.{◌≡◌, ◌≤◌, ◌-◌, [], ◌∷◌, List, map, true, length, IfOk, IfErr, IsErr};
+ghost use Rattle.x509_der.specs.Looks.{behind, is_element, CountedBehind};
+ghost use Rattle.x509_der.specs.Oid.{oid_bytes};
+ghost use Rattle.x509_der.specs.Place.{at};
+ghost use Rattle.x509_der.specs.Primitives.{is_constructed};
+ghost use Rattle.x509_der.specs.Promises.{Answers, IsForeign};
+ghost use Rattle.x509_der.specs.Reading.{AddsAtLeast, strict};
+ghost use Rattle.x509_der.specs.declared.oid.Oid.{Oid as OidOf};
+ghost use Rattle.x509_fields.specs.Errors.{is_x509_memory};
+ghost use Rattle.x509_fields.specs.declared.error.X509Error.TheVariants.{OutOfMemory};
+ghost use Rattle.x509_parts.specs.Groups.{held, pointed};
+ghost use Rattle.x509_authorities.specs.InformationAccess.{Access, access_of, authority_accesses_of, subject_accesses_of, access_description, information_access, access_heads, information_access_heads, access_description_laws, information_access_laws, accesses_left, locations};
+
+use crate::access_iter::AccessIter;
+use std::alloc::Global;
+use std::collections::HashMap;
+use std::hash::BuildHasher;
+use x509_der::{Err, ErrorKind, FromDer, Oid, Place, Sequence, Tries, Two, read_run};
+use x509_fields::{X509Error, sequence_at};
+use x509_general_names::GeneralName;
+use x509_parts::{add_to_group, list_error};
+
+#[cfg(test)]
+mod tests;
+
+/// How and where something is found (RFC 5280, section 4.2.2.1).
+///
+/// ```text
+/// AccessDescription ::= SEQUENCE {
+///     accessMethod    OBJECT IDENTIFIER,
+///     accessLocation  GeneralName }
+/// ```
+#[derive(Debug, PartialEq, Drop)]
+pub struct AccessDescription<'a> {
+    /// The kind of what is found there, as OCSP or the issuer's certificates.
+    pub access_method: Oid<'a>,
+    /// Where it is found.
+    pub access_location: GeneralName<'a>,
+}
+
+impl<'a> AccessDescription<'a> {
+    /// The description of this method and location.
+    pub const fn new(access_method: Oid<'a>, access_location: GeneralName<'a>) -> Self
+        ensures method { result.access_method ≡ access_method.entry }
+        ensures location { result.access_location ≡ access_location.entry }
+    {
+        AccessDescription {
+            access_method,
+            access_location,
+        }
+    }
+}
+
+/// The first field that cannot be read refuses, for its own reason; bytes behind the location are skipped.
+impl<'a> FromDer<'a, X509Error> for AccessDescription<'a> {
+    ghost Value = { Access };
+
+    ghost view = { access_of };
+
+    ghost plan = { access_description };
+
+    ghost laws = { access_description_laws.laws.lawful };
+
+    ghost marked = { access_description_laws.marked };
+
+    ghost form = { strict };
+
+    ghost own_tag = { is_constructed 16 };
+
+    ghost heads = { access_heads };
+
+    ghost takes_memory = { true };
+
+    #[tactic(auto, unfolding(crate::specs::InformationAccess::access_description), using(x509_der::proofs::Marking::marks_of_readers))]
+    fn read_at(
+        alloc: Global,
+        tries: &mut Tries,
+        place: &Place<'a>,
+    ) -> Result<(Self, bool), Err<X509Error>> {
+        let contents = sequence_at(place)?;
+        let Two { first, second } = Two::cut(tries, contents);
+        let access_method = first.oid().map_err(|e| e.convert())?;
+        let (access_location, plain) = GeneralName::read_at(alloc, tries, &second)?;
+        let description = AccessDescription {
+            access_method,
+            access_location,
+        };
+        Ok((description, plain & second.rest().is_empty()))
+    }
+
+    ghost never_memory = { access_description_laws.laws.never_memory };
+}
+
+/// Where information about the issuer and its services are found (RFC 5280, section 4.2.2.1).
+///
+/// ```text
+/// AuthorityInfoAccessSyntax ::= SEQUENCE SIZE (1..MAX) OF AccessDescription
+/// ```
+#[derive(Debug, PartialEq, Drop)]
+pub struct AuthorityInfoAccess<'a> {
+    /// The access descriptions, in order.
+    pub accessdescs: Sequence<AccessDescription<'a>>,
+}
+
+impl<'a> AuthorityInfoAccess<'a> {
+    /// The access descriptions, in order.
+    pub fn iter(&self) -> AccessIter<'_, 'a>
+        ensures { accesses_left result ≡ self.now.accessdescs }
+    {
+        AccessIter::new(self.accessdescs.as_slice())
+    }
+
+    /// The locations under each method, in order, and no other key.
+    ///
+    /// # Errors
+    ///
+    /// `OutOfMemory`.
+    pub fn as_hashmap<S: BuildHasher + Drop>(
+        &self,
+        alloc: Global,
+        hasher: S,
+    ) -> Result<HashMap<Oid<'a>, Vec<&GeneralName<'a>>, S>, X509Error>
+        ensures groups { IfOk result (λ m. (q : OidOf) → pointed (held m q) ≡ locations self.now.accessdescs q) }
+        ensures err { IfErr result (λ e. e ≡ OutOfMemory) }
+    {
+        lent(alloc, hasher, self.accessdescs.as_slice())
+    }
+
+    /// The locations under each method, in order, and no other key.
+    ///
+    /// # Errors
+    ///
+    /// `OutOfMemory`; then nothing is handed back.
+    pub fn into_hashmap<S: BuildHasher + Drop>(
+        self,
+        alloc: Global,
+        hasher: S,
+    ) -> Result<HashMap<Oid<'a>, Vec<GeneralName<'a>>, S>, X509Error>
+        ensures groups { IfOk result (λ m. (q : OidOf) → held m q ≡ locations self.entry.accessdescs q) }
+        ensures err { IfErr result (λ e. e ≡ OutOfMemory) }
+    {
+        owned(alloc, hasher, self.accessdescs.into_vec())
+    }
+}
+
+/// The descriptions fill the SEQUENCE, which may be empty; else they are `Error(Der(NomError(Eof)))`.
+impl<'a> FromDer<'a, X509Error> for AuthorityInfoAccess<'a> {
+    ghost Value = { List Access };
+
+    ghost view = { authority_accesses_of };
+
+    ghost plan = { information_access };
+
+    ghost laws = { information_access_laws.laws.lawful };
+
+    ghost marked = { information_access_laws.marked };
+
+    ghost form = { strict };
+
+    ghost own_tag = { is_constructed 16 };
+
+    ghost heads = { information_access_heads };
+
+    ghost takes_memory = { true };
+
+    fn read_at(
+        alloc: Global,
+        tries: &mut Tries,
+        place: &Place<'a>,
+    ) -> Result<(Self, bool), Err<X509Error>> {
+        let (accessdescs, plain) = accesses_at(alloc, tries, place)?;
+        Ok((AuthorityInfoAccess { accessdescs }, plain))
+    }
+
+    ghost never_memory = { information_access_laws.laws.never_memory };
+}
+
+/// Where information about the subject and its services are found (RFC 5280, section 4.2.2.2).
+///
+/// ```text
+/// SubjectInfoAccessSyntax ::= SEQUENCE SIZE (1..MAX) OF AccessDescription
+/// ```
+#[derive(Debug, PartialEq, Drop)]
+pub struct SubjectInfoAccess<'a> {
+    /// The access descriptions, in order.
+    pub accessdescs: Sequence<AccessDescription<'a>>,
+}
+
+impl<'a> SubjectInfoAccess<'a> {
+    /// The access descriptions, in order.
+    pub fn iter(&self) -> AccessIter<'_, 'a>
+        ensures { accesses_left result ≡ self.now.accessdescs }
+    {
+        AccessIter::new(self.accessdescs.as_slice())
+    }
+
+    /// The locations under each method, in order, and no other key.
+    ///
+    /// # Errors
+    ///
+    /// `OutOfMemory`.
+    pub fn as_hashmap<S: BuildHasher + Drop>(
+        &self,
+        alloc: Global,
+        hasher: S,
+    ) -> Result<HashMap<Oid<'a>, Vec<&GeneralName<'a>>, S>, X509Error>
+        ensures groups { IfOk result (λ m. (q : OidOf) → pointed (held m q) ≡ locations self.now.accessdescs q) }
+        ensures err { IfErr result (λ e. e ≡ OutOfMemory) }
+    {
+        lent(alloc, hasher, self.accessdescs.as_slice())
+    }
+
+    /// The locations under each method, in order, and no other key.
+    ///
+    /// # Errors
+    ///
+    /// `OutOfMemory`; then nothing is handed back.
+    pub fn into_hashmap<S: BuildHasher + Drop>(
+        self,
+        alloc: Global,
+        hasher: S,
+    ) -> Result<HashMap<Oid<'a>, Vec<GeneralName<'a>>, S>, X509Error>
+        ensures groups { IfOk result (λ m. (q : OidOf) → held m q ≡ locations self.entry.accessdescs q) }
+        ensures err { IfErr result (λ e. e ≡ OutOfMemory) }
+    {
+        owned(alloc, hasher, self.accessdescs.into_vec())
+    }
+}
+
+/// As [`AuthorityInfoAccess`].
+impl<'a> FromDer<'a, X509Error> for SubjectInfoAccess<'a> {
+    ghost Value = { List Access };
+
+    ghost view = { subject_accesses_of };
+
+    ghost plan = { information_access };
+
+    ghost laws = { information_access_laws.laws.lawful };
+
+    ghost marked = { information_access_laws.marked };
+
+    ghost form = { strict };
+
+    ghost own_tag = { is_constructed 16 };
+
+    ghost heads = { information_access_heads };
+
+    ghost takes_memory = { true };
+
+    fn read_at(
+        alloc: Global,
+        tries: &mut Tries,
+        place: &Place<'a>,
+    ) -> Result<(Self, bool), Err<X509Error>> {
+        let (accessdescs, plain) = accesses_at(alloc, tries, place)?;
+        Ok((SubjectInfoAccess { accessdescs }, plain))
+    }
+
+    ghost never_memory = { information_access_laws.laws.never_memory };
+}
+
+// Descriptions in a SEQUENCE that they fill, and their mark.
+#[tactic(auto, unfolding(crate::specs::InformationAccess::information_access), using(x509_der::proofs::Marking::marks_of_readers))]
+fn accesses_at<'a>(
+    alloc: Global,
+    tries: &mut Tries,
+    place: &Place<'a>,
+) -> Result<(Sequence<AccessDescription<'a>>, bool), Err<X509Error>>
+    ensures reads { Answers is_x509_memory true (λ x. (behind (at place.now), map access_of x.0)) result (information_access.read (at place.now)) }
+    ensures marks { IfOk result (λ x. x.1 ≡ information_access.marks (at place.now)) }
+    ensures grows { tries.old ≤ tries.new }
+    ensures count { CountedBehind (length (behind (at place.now))) tries.old tries.new (length (at place.now)) result }
+    ensures foreign { IsForeign strict (is_constructed 16) (at place.now) → IsErr result × (tries.new ≤ tries.old) }
+    ensures least { IfOk result (λ x. AddsAtLeast (information_access_heads (map access_of x.0) - 1) tries.old tries.new) }
+    ensures there { IfOk result (λ _. is_element (at place.now) ≡ true) }
+{
+    let contents = sequence_at(place)?;
+    let (rest, accesses, plain) = read_run(alloc, tries, contents)?;
+    if !rest.is_empty() {
+        return Err(list_error(ErrorKind::Eof));
+    }
+    Ok((accesses, plain))
+}
+
+// The locations under each method, in order.
+#[tactic(auto, using(x509_parts::proofs::Grouped::grouping))]
+fn lent<'v, 'a, S: BuildHasher + Drop>(
+    alloc: Global,
+    hasher: S,
+    accesses: &'v [AccessDescription<'a>],
+) -> Result<HashMap<Oid<'a>, Vec<&'v GeneralName<'a>>, S>, X509Error>
+    ensures groups { IfOk result (λ m. (q : OidOf) → pointed (held m q) ≡ locations accesses.now q) }
+    ensures err { IfErr result (λ e. e ≡ OutOfMemory) }
+{
+    let mut map = HashMap::with_hasher(alloc, hasher);
+    for access in accesses {
+        add_to_group(
+            alloc,
+            &mut map,
+            access.access_method,
+            &access.access_location,
+        )?;
+    }
+    Ok(map)
+}
+
+// The locations under each method, in order.
+#[tactic(auto, using(x509_parts::proofs::Grouped::grouping))]
+fn owned<'a, S: BuildHasher + Drop>(
+    alloc: Global,
+    hasher: S,
+    accesses: Vec<AccessDescription<'a>>,
+) -> Result<HashMap<Oid<'a>, Vec<GeneralName<'a>>, S>, X509Error>
+    ensures groups { IfOk result (λ m. (q : OidOf) → held m q ≡ locations accesses.entry.items q) }
+    ensures err { IfErr result (λ e. e ≡ OutOfMemory) }
+{
+    let mut map = HashMap::with_hasher(alloc, hasher);
+    for access in accesses {
+        add_to_group(
+            alloc,
+            &mut map,
+            access.access_method,
+            access.access_location,
+        )?;
+    }
+    Ok(map)
+}

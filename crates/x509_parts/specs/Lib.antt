@@ -1,0 +1,5 @@
+pub mod Flags
+pub mod NamedBits
+pub mod Texts
+pub mod Groups
+pub mod Lists
