@@ -1,4 +1,4 @@
--- BOOLEAN under a context tag.
+-- BOOLEAN (X.690, 8.2 and 11.1) under a context tag.
 use Rattle.std.specs.Prelude.{◌≡◌, true, ℕ, Bool, ◌++◌}
 use Rattle.x509_der.specs.Laws.{IsMarkedElement, Opens, differs, Away}
 use Rattle.x509_der.specs.Leaves.{BerPlan, value}

@@ -1,4 +1,4 @@
--- General names under a context tag.
+-- General names (RFC 5280, 4.2.1.6) under a context tag.
 use Rattle.std.specs.Prelude.{◌≡◌, true, ℕ, List, map}
 use Rattle.x509_der.specs.Laws.{IsMarkedElement, IsMarkedField, differs, Away}
 use Rattle.x509_der.specs.Leaves.{implicit}

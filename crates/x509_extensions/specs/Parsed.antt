@@ -1,4 +1,4 @@
--- What the value of an extension says (RFC 5280, 4.2.1).
+-- What the value of an extension says (RFC 5280, 4.2, 5.2 and 5.3; RFC 6962, 3.3).
 use Rattle.std.specs.Prelude.{◌≡◌, refl, ℕ, List, map, Bool, true, false, Option, Some, None, Result, Ok, Err}
 use Rattle.x509_der.specs.declared.error.BerError.{BerError}
 use Rattle.x509_der.specs.declared.error.BerError.TheVariants as ber
@@ -120,7 +120,7 @@ error_in _ = None
 abbrev pub made : {A : Type 0} → (A → Parsed) → Field A → Field Parsed
 made make p = p >>= λ a. give (make a)
 
--- what each value is read by (RFC 5280, 4.2.1)
+-- what each value is read by
 abbrev pub row : Kind → Field Parsed
 row kinds.SubjectKeyIdentifier = made (λ v. SubjectKeyIdentifier v) key_identifier
 row kinds.KeyUsage = made (λ v. KeyUsage v) key_usage

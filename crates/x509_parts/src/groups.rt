@@ -14,7 +14,7 @@ use x509_fields::X509Error;
 #[cfg(test)]
 mod tests;
 
-/// Puts a member behind those with its identifier. Where memory is refused, some of them are lost.
+/// Puts a member behind those with its identifier. Where memory is refused, those under that identifier may be lost.
 ///
 /// # Errors
 ///

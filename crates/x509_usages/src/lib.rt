@@ -1,4 +1,4 @@
-//! The values of extensions that hold no general names (RFC 5280, section 4.2.1).
+//! The values of extensions that hold no general names (RFC 5280, sections 4.2.1, 5.2.3 and 5.3; Netscape certificate extensions).
 #![tactic(auto)]
 
 mod basic_constraints;

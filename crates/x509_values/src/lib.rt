@@ -1,4 +1,4 @@
-//! The values of extensions (RFC 5280, section 4.2.1), in one place.
+//! The values of extensions (RFC 5280, sections 4.2, 5.2 and 5.3; RFC 6962, section 3.3), in one place.
 #![tactic(auto)]
 
 pub use x509_authorities::{
