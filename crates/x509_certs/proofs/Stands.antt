@@ -12,14 +12,15 @@ use Rattle.x509_extensions.specs.Depth.{changed}
 use Rattle.x509_certs.specs.TbsCertificate.{Tbs, SignedPartStands, tbs, tbs_by, tbs_at_depth, tbs_laws}
 use Rattle.x509_certs.specs.Certificate.{Certificate, CertificateStands, certificate, certificate_by, certificate_at_depth, certificate_laws}
 use Rattle.x509_certs.proofs.Depths.{tbs_depths, certificate_depths, refused_at_depths}
-use Rattle.x509_certs.proofs.SignedParts.{front_window, signed_part, reads_back, tbs_front_window}
+use Rattle.x509_signed.proofs.SignedParts.{signed_stands, window_of_front}
+use Rattle.x509_certs.proofs.SignedParts.{tbs_window}
 
 pub tbs_stands : (deep : Bool) (bytes : List ℕ) (t : Tbs) (rest : List ℕ) → IsBytes bytes → (tbs deep).read bytes ≡ got t rest → SignedPartStands deep bytes t rest
 tbs_stands deep bytes t rest k read =
     let laws = (tbs_laws deep).laws.lawful in
     record {
       reading = read;
-      window = tbs_front_window deep bytes t rest (front_read (tbs deep) laws.agrees laws.is_local bytes t rest k read);
+      window = window_of_front (tbs deep) (λ x. x.raw) (tbs_window deep) bytes t rest (front_read (tbs deep) laws.agrees laws.is_local bytes t rest k read);
       depth = λ other.
           let others = (tbs_laws other).laws.lawful in
           front_read (tbs other) others.agrees others.is_local bytes (tbs_at_depth other t) rest k (tbs_depths deep other bytes ∙ ap (changed (tbs_at_depth other)) read);
@@ -31,14 +32,10 @@ tbs_front_stands deep bytes t rest k front =
     tbs_stands deep bytes t rest k (front_only (tbs deep) laws.agrees laws.is_local bytes t rest k front)
 
 pub certificate_stands : (deep : Bool) (bytes : List ℕ) (c : Certificate) (rest : List ℕ) → IsBytes bytes → (certificate deep).read bytes ≡ got c rest → CertificateStands deep bytes c rest
+unfolding certificate
 certificate_stands deep bytes c rest k read =
-    let laws = (certificate_laws deep).laws.lawful in
-    let front = front_read (certificate deep) laws.agrees laws.is_local bytes c rest k read in
     record {
-      reading = read;
-      window = front_window deep bytes c rest front;
-      signed_part = signed_part deep bytes c rest front;
-      reads_back = reads_back deep bytes c rest k front;
+      stands = signed_stands (tbs deep) (λ t. t.raw) (tbs_window deep) (tbs_laws deep).laws.lawful (certificate_laws deep).laws.lawful bytes c rest k read;
       depth = λ other.
           let others = (certificate_laws other).laws.lawful in
           front_read (certificate other) others.agrees others.is_local bytes (certificate_at_depth other c) rest k (certificate_depths deep other bytes ∙ ap (changed (certificate_at_depth other)) read);

@@ -12,7 +12,7 @@ use Rattle.x509_certs.specs.Validity.{Period, validity, validity_laws, period_of
 use Rattle.x509_der.specs.Laws.{IsMarkedField, Anywhere}
 use Rattle.x509_der.proofs.Marking.{marked}
 use Rattle.x509_keys.specs.Laws.{key_info_laws}
-use Rattle.x509_certs.specs.Serial.{serial, serial_laws}
+use Rattle.x509_signed.specs.Serial.{serial, serial_laws}
 use Rattle.x509_certs.specs.ExplicitVersion.{explicit_version, explicit_version_laws}
 use Rattle.x509_certs.specs.declared.basic_fields.BasicFields.{BasicFields as Basic}
 

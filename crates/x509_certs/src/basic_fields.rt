@@ -9,12 +9,12 @@ ghost use Rattle.x509_fields.specs.Errors.{is_x509_memory};
 ghost use Rattle.x509_certs.specs.BasicFields.{basic_fields_of, basic_fields_heads, basic_fields};
 
 use crate::explicit_version::read_version;
-use crate::serial::read_serial;
 use crate::validity::Validity;
 use std::alloc::Global;
 use x509_der::{Elements, Err, Tries, field_at};
 use x509_fields::{AlgorithmIdentifier, X509Error, X509Name, X509Version};
 use x509_keys::SubjectPublicKeyInfo;
+use x509_signed::read_serial;
 
 /// The fields before those that the second and third versions add.
 #[derive(Drop)]

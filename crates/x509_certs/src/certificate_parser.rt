@@ -3,18 +3,19 @@
 ghost use Rattle.std.specs.Prelude.{◌≡◌, ◌<◌, ◌≤◌, ◌+◌, ◌-◌, ◌*◌, Bool, true, false, IfOk, IfErr, IsErr, length};
 ghost use Rattle.x509_der.specs.Looks.{behind, is_element, CountedBehind};
 ghost use Rattle.x509_der.specs.Place.{at};
-ghost use Rattle.x509_der.specs.Primitives.{is_constructed, bit_string};
+ghost use Rattle.x509_der.specs.Primitives.{is_constructed};
 ghost use Rattle.x509_der.specs.Promises.{Answers, TriesBounded, IsForeign, ReadsExactly, is_excused};
-ghost use Rattle.x509_der.specs.Reading.{Gives, AddsAtLeast, strict, loose};
+ghost use Rattle.x509_der.specs.Reading.{AddsAtLeast, strict};
 ghost use Rattle.x509_fields.specs.Errors.{is_x509_memory};
 ghost use Rattle.x509_extensions.specs.Extension.{value_bytes};
-ghost use Rattle.x509_certs.specs.Certificate.{is_deep, is_strict, certificate_of, certificate_heads, CertificateStands, signature_value, certificate, certificate_by};
+ghost use Rattle.x509_certs.specs.Certificate.{is_deep, is_strict, certificate_of, certificate_heads, CertificateStands, certificate, certificate_by};
 
 use crate::certificate::X509Certificate;
 use crate::tbs_parser::TbsCertificateParser;
 use std::alloc::Global;
-use x509_der::{BitString, Err, FromDer, Place, Three, Tries};
+use x509_der::{Err, FromDer, Place, Three, Tries};
 use x509_fields::{AlgorithmIdentifier, X509Error, X509Result, sequence_at};
+use x509_signed::signature_value_at;
 
 /// Reads certificates, with or without what the values of extensions say.
 ///
@@ -134,7 +135,7 @@ impl X509CertificateParser {
     }
 
     /// Reads the certificate at a place that was looked at.
-    #[tactic(auto, unfolding(crate::specs::Certificate::certificate), using(x509_der::proofs::Marking::marks_of_readers))]
+    #[tactic(auto, unfolding(crate::specs::Certificate::certificate, x509_signed::specs::Signed::signed), using(x509_der::proofs::Marking::marks_of_readers))]
     pub fn read_at<'a>(
         &self,
         alloc: Global,
@@ -163,7 +164,7 @@ impl X509CertificateParser {
         let (signature_algorithm, algorithm_plain) = AlgorithmIdentifier::read_at(
             alloc, tries, &second,
         )?;
-        let signature_value = signature_value_of(&third)?;
+        let signature_value = signature_value_at(&third)?;
         let bytes = place.bytes();
         let certificate = X509Certificate {
             tbs_certificate,
@@ -176,17 +177,4 @@ impl X509CertificateParser {
             tbs_plain & algorithm_plain & third.rest().is_empty(),
         ))
     }
-}
-
-// The bits of a signature.
-#[tactic(auto, unfolding(crate::specs::Certificate::signature_value), using(x509_der::proofs::Marking::marks_of_readers))]
-fn signature_value_of<'a>(place: &Place<'a>) -> Result<BitString<'a>, Err<X509Error>>
-    ensures reads { Gives (λ x. (behind (at place.now), bit_string x)) result (signature_value.read (at place.now)) }
-    ensures marks { signature_value.marks (at place.now) ≡ true }
-    ensures there { IfOk result (λ _. is_element (at place.now) ≡ true) }
-    ensures sizes { IfOk result (λ _. length (behind (at place.now)) + 2 ≤ length (at place.now)) }
-{
-    place
-        .bits()
-        .map_err(|_| Err::Error(X509Error::InvalidSignatureValue))
 }

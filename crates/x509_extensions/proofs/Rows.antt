@@ -1,8 +1,8 @@
 -- A row of the table: what a type's own reader takes is what the parsed value is, and the other way round.
-use Rattle.std.proofs.Common.{◌≡◌, ℕ, List, Result, Ok, Err, refl, sym, ap, subst, ◌∙◌, inl, inr}
+use Rattle.std.proofs.Common.{◌≡◌, ℕ, List, Ok, Err, refl, sym, ap, subst, ◌∙◌, inl, inr}
 use Rattle.x509_der.specs.declared.error.BerError.{BerError}
 use Rattle.x509_der.specs.declared.error.Err.{Err as Refusal}
-use Rattle.x509_der.specs.Laws.{IsBytes, Agrees, IsLawful}
+use Rattle.x509_der.specs.Laws.{Agrees, IsLawful}
 use Rattle.x509_der.specs.Plan.{Outcome, got}
 use Rattle.x509_der.specs.Promises.{IsFront, refusal_by}
 use Rattle.x509_der.proofs.Results.{cases_outcome}

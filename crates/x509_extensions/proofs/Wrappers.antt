@@ -1,5 +1,5 @@
 -- Extensions that close a structure and end before it does.
-use Rattle.std.proofs.Common.{◌≡◌, ◌<◌, ℕ, Bool, List, [], ◌∷◌, length, Err, ap, ◌∙◌, arith}
+use Rattle.std.proofs.Common.{◌≡◌, ◌<◌, ℕ, Bool, List, [], ◌∷◌, length, Err, ◌∙◌, arith}
 use Rattle.x509_der.specs.declared.header.Header.{Header}
 use Rattle.x509_der.specs.Plan.{got, and_then, ended}
 use Rattle.x509_der.specs.Promises.{ended_early}

@@ -1,5 +1,5 @@
 -- One extension (RFC 5280, 4.2): its value, its grammar at both depths, its heads, its laws.
-use Rattle.std.specs.Prelude.{◌≡◌, refl, ℕ, List, Bool, false, length, unwrap_or, Ok, ◌+◌, true, sum_by, if◌then◌else◌}
+use Rattle.std.specs.Prelude.{refl, ℕ, List, Bool, false, length, unwrap_or, Ok, ◌+◌, true, sum_by, if◌then◌else◌}
 use Rattle.x509_der.specs.declared.error.Err.TheVariants.{Error}
 use Rattle.x509_der.specs.Plan.{◌>>=◌, give, soft, universal, or_refuse, mapped, plain_when}
 use Rattle.x509_der.specs.Leaves.{oid, bool_loose, octets}

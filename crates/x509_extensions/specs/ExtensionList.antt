@@ -1,5 +1,5 @@
 -- Extensions in their SEQUENCE (RFC 5280, 4.1.2.9) and in the wrapper that closes a structure.
-use Rattle.std.specs.Prelude.{ℕ, ◌==◌, ◌&&◌, List, [], Bool, length, ◌+◌, ◌∷◌, sum_by}
+use Rattle.std.specs.Prelude.{ℕ, ◌==◌, ◌&&◌, List, [], Bool, length, map, ◌+◌, ◌∷◌, sum_by}
 use Rattle.x509_der.specs.declared.error.Err.TheVariants.{Error}
 use Rattle.x509_der.specs.declared.header.Header.{Header}
 use Rattle.x509_der.specs.Reading.{strict}
@@ -9,14 +9,20 @@ use Rattle.x509_der.specs.Leaves.{bare_header, header}
 use Rattle.x509_der.specs.Promises.{ended_early, is_ber_memory}
 use Rattle.x509_fields.specs.declared.error.X509Error.TheVariants as x509
 use Rattle.x509_fields.specs.Fields.{Field, sequence, as_x509_renames}
-use Rattle.x509_extensions.specs.Extension.{Extension, extension, extension_heads, extension_laws}
+use Rattle.x509_extensions.specs.Extension.{Extension, extension_of, extension, extension_heads, extension_laws}
 use Rattle.x509_der.specs.Laws.{IsMarkedField, IsMarkedElement, Anywhere}
 use Rattle.x509_der.proofs.Lawful.{named_field, header_field}
 use Rattle.x509_der.proofs.Marking.{marked, bare_header_marked}
 use Rattle.x509_fields.specs.Errors.{is_x509_memory}
 use Rattle.std.specs.Slice.Iter.{iter_rest}
 use Rattle.x509_extensions.specs.declared.extension.X509Extension.{X509Extension}
+use Rattle.x509_extensions.specs.declared.extension_sequence.ExtensionSequence.{ExtensionSequence}
 use Rattle.x509_extensions.specs.declared.extension_iter.ExtensionIter.{ExtensionIter}
+
+-- ---- the value
+
+abbrev pub extensions_of : ExtensionSequence → List Extension
+extensions_of s = map extension_of s.list
 
 -- ---- the grammar
 

@@ -1,13 +1,16 @@
 -- What the look-ups of extensions answer.
-use Rattle.std.specs.Prelude.{◌≡◌, ℕ, Bool, true, not, ◌&&◌, List, [], ◌∷◌, ◌++◌, Option, Some, None, Result, Ok, Err}
+use Rattle.std.specs.Prelude.{ℕ, Bool, true, not, ◌&&◌, List, [], ◌∷◌, ◌++◌, Option, Some, None, Result, Ok, Err}
 use Rattle.std.specs.Borrow.{Bor}
-use Rattle.std.specs.List.{filter, find, list_any}
-use Rattle.std.specs.Option.{option_copied}
+use Rattle.std.specs.List.{filter, list_any}
+use Rattle.std.specs.Option.{option_copied, option_map}
 use Rattle.std.specs.Str.{bytes_eq}
 use Rattle.x509_der.specs.Oid.{oid_bytes}
 use Rattle.x509_der.specs.declared.oid.Oid.{Oid}
+use Rattle.x509_der.specs.declared.unsigned.UnsignedBytes.{UnsignedBytes}
 use Rattle.x509_fields.specs.declared.error.X509Error.{X509Error}
 use Rattle.x509_fields.specs.declared.error.X509Error.TheVariants.{DuplicateExtensions, InvalidExtensions}
+use Rattle.x509_fields.specs.declared.version.ReasonCode.{ReasonCode}
+use Rattle.x509_fields.specs.declared.time.asn1_time.ASN1Time.{ASN1Time}
 use Rattle.x509_extensions.specs.declared.extension.X509Extension.{X509Extension}
 use Rattle.x509_extensions.specs.declared.parsed.ParsedExtension.{ParsedExtension}
 use Rattle.x509_extensions.specs.declared.parsed.ParsedExtension.TheVariants as variants
@@ -20,9 +23,13 @@ use Rattle.x509_usages.specs.declared.policy_mapping.PolicyMappings.{PolicyMappi
 use Rattle.x509_general_names.specs.declared.alternative_names.SubjectAlternativeName.{SubjectAlternativeName}
 use Rattle.x509_general_names.specs.declared.name_constraints.NameConstraints.{NameConstraints}
 
--- whether the extension has this identifier
-unfoldable pub has_oid : List ℕ → X509Extension → Bool
-has_oid id x = bytes_eq (oid_bytes x.oid) id
+-- whether the member has this identifier
+unfoldable pub has_id : {X : Type 0} → (X → Oid) → List ℕ → X → Bool
+has_id oid_of id x = bytes_eq (oid_bytes (oid_of x)) id
+
+-- whether the extension has it
+abbrev pub has_oid : List ℕ → X509Extension → Bool
+has_oid id = has_id (λ x. x.oid) id
 
 -- whether two identifiers are the same
 abbrev pub oid_eq : Oid → Oid → Bool
@@ -43,14 +50,17 @@ abbrev pub pointed : Result (Option (Bor X509Extension)) X509Error → Result (O
 pointed (Ok o) = Ok (option_copied o)
 pointed (Err e) = Err e
 
--- none of these identifiers stands before, nor twice
-unfoldable pub all_distinct_after : List X509Extension → List X509Extension → Bool
-all_distinct_after before [] = true
-all_distinct_after before (x ∷ xs) = not (list_any (has_oid (oid_bytes x.oid)) before) && all_distinct_after (before ++ x ∷ []) xs
+-- no identifier of these stands before, nor twice
+unfoldable pub distinct_after : {X : Type 0} → (X → Oid) → List X → List X → Bool
+distinct_after oid_of before [] = true
+distinct_after oid_of before (x ∷ xs) = not (list_any (has_id oid_of (oid_bytes (oid_of x))) before) && distinct_after oid_of (before ++ x ∷ []) xs
 
 -- no identifier stands twice
+abbrev pub distinct_by : {X : Type 0} → (X → Oid) → List X → Bool
+distinct_by oid_of xs = distinct_after oid_of [] xs
+
 abbrev pub all_distinct : List X509Extension → Bool
-all_distinct xs = all_distinct_after [] xs
+all_distinct xs = distinct_by (λ x. x.oid) xs
 
 -- ---- what the only one says
 
@@ -73,6 +83,11 @@ abbrev pub typed_or_none : {V : Type 0} → (ParsedExtension → Option V) → R
 typed_or_none value (Err e) = Err e
 typed_or_none value (Ok None) = Ok None
 typed_or_none value (Ok (Some x)) = or_none x.critical (value x.parsed_extension)
+
+-- whether the first one is critical, and its value as one of a type; none where it is of another type
+abbrev pub first_said : {V : Type 0} → (ParsedExtension → Option V) → Option X509Extension → Option (Bool × V)
+first_said value None = None
+first_said value (Some x) = option_map (λ v. (x.critical, v)) (value x.parsed_extension)
 
 -- a value as one of a type
 
@@ -107,3 +122,15 @@ subject_names_in _ = None
 abbrev pub name_constraints_in : ParsedExtension → Option NameConstraints
 name_constraints_in (variants.NameConstraints value) = Some value
 name_constraints_in _ = None
+
+abbrev pub crl_number_in : ParsedExtension → Option UnsignedBytes
+crl_number_in (variants.CRLNumber value) = Some value
+crl_number_in _ = None
+
+abbrev pub reason_code_in : ParsedExtension → Option ReasonCode
+reason_code_in (variants.ReasonCode value) = Some value
+reason_code_in _ = None
+
+abbrev pub invalidity_date_in : ParsedExtension → Option ASN1Time
+invalidity_date_in (variants.InvalidityDate value) = Some value
+invalidity_date_in _ = None

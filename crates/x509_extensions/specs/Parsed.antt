@@ -5,7 +5,7 @@ use Rattle.x509_der.specs.declared.error.BerError.TheVariants as ber
 use Rattle.x509_der.specs.declared.error.Err.{Err as Refusal}
 use Rattle.x509_der.specs.Laws.{IsBytes, IsMarkedField, IsMarkedElement, Anywhere}
 use Rattle.x509_der.specs.Oid.{oid_bytes}
-use Rattle.x509_der.specs.Plan.{Outcome, Plan, ◌>>=◌, give, PlainInside, marks_value}
+use Rattle.x509_der.specs.Plan.{Outcome, ◌>>=◌, give, PlainInside, marks_value}
 use Rattle.x509_der.specs.Promises.{IsFront, refusal_by}
 use Rattle.x509_der.specs.Unsigned.{unsigned_bytes}
 use Rattle.x509_der.proofs.Marked.{value_told}

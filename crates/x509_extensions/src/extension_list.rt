@@ -137,9 +137,9 @@ impl X509ExtensionParser {
     }
 }
 
-// Whether the wrapper is one, and ends where the structure does.
+/// Whether the wrapper is a constructed element of context class with this number, and ends where what is left of the structure does.
 #[inline(always)]
-fn closes(number: u32, header: Header, left: &[u8]) -> bool
+pub fn closes(number: u32, header: Header, left: &[u8]) -> bool
     ensures { result ≡ closes number header left.now }
 {
     match header {

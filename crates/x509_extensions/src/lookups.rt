@@ -17,7 +17,7 @@ use x509_der::Oid;
 use x509_fields::X509Error;
 
 /// Whether the extension has this identifier.
-#[tactic(auto, unfolding(crate::specs::Lookups::has_oid))]
+#[tactic(auto, unfolding(crate::specs::Lookups::has_id))]
 fn has_oid(oid: &Oid<'_>, extension: &X509Extension<'_>) -> bool
     ensures { result ≡ has_oid (oid_bytes oid.now) extension.now }
 {

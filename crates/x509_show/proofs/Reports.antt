@@ -1,19 +1,26 @@
 -- The one report of a command and an input, and how a failed write within it ends a run.
-use Rattle.std.proofs.Common.{◌≡◌, ◌↔◌, ℕ, ◌<◌, ◌+◌, List, ◌++◌, [], ◌∷◌, length, take, get_or, map, flat_map, Bool, true, false, cond, Option, Ok, Err, inl, inr, ap, sym, subst, refl, ◌∙◌, arith}
+use Rattle.std.proofs.Common.{◌≡◌, ◌↔◌, ℕ, ◌<◌, ◌+◌, List, ◌++◌, [], ◌∷◌, length, take, get_or, map, flat_map, Bool, true, false, cond, codes, Option, None, Some, MatchOption, Ok, Err, inl, inr, ap, sym, subst, refl, ◌∙◌, arith}
 use Rattle.std.proofs.lemmas.List.{flat_map_more, map-append, take_more}
 use Rattle.x509_der.specs.declared.error.Err.{Err as Refusal}
 use Rattle.x509_der.specs.Plan.{got, refusing}
-use Rattle.x509_der.specs.Promises.{IsFront, is_excused}
+use Rattle.x509_der.specs.Promises.{IsFront, is_excused, option_view}
 use Rattle.x509_der.specs.Reading.{Reading, Element, strict}
 use Rattle.x509_der.specs.Elements.{ElementIs}
 use Rattle.x509_der.proofs.Results.{got_not_err, err, err_is}
 use Rattle.x509_fields.specs.declared.error.X509Error.{X509Error}
 use Rattle.x509_fields.specs.Errors.{is_x509_memory, x509_word}
-use Rattle.x509_certs.specs.Certificate.{Certificate, certificate}
+use Rattle.x509_fields.specs.Fields.{Field}
+use Rattle.x509_certs.specs.Certificate.{certificate}
+use Rattle.x509_lists.specs.CertificateList.{certificate_list}
+use Rattle.x509_requests.specs.Request.{certification_request}
 use Rattle.x509_show.specs.Parts.{IsDrainedOf}
 use Rattle.x509_show.specs.Report.{Report, IsOnly, refused_report}
 use Rattle.x509_show.specs.ElementReport.{IsElementReport, accepted_report, reading_report}
-use Rattle.x509_show.specs.CertificateReport.{IsCertificateReport, certificate_report}
+use Rattle.x509_show.specs.CertificateReport.{certificate_text}
+use Rattle.x509_show.specs.FrontReport.{IsFrontReport, front_report}
+use Rattle.x509_show.specs.Lines.{line}
+use Rattle.x509_show.specs.ListReport.{list_text, or_none}
+use Rattle.x509_show.specs.RequestReport.{request_text}
 use Rattle.x509_show.specs.Commands.{IsReport, IsCommand, command_word, usage_report}
 use Rattle.x509_show.specs.Runs.{IsStopped, WriteStops}
 use Rattle.x509_show.specs.declared.commands.Command.{Command}
@@ -36,37 +43,37 @@ reading_report-status (Err refusal) = omega arith
 IsElementReport-status : (input : List ℕ) (r : Report) → IsElementReport input r → r.status < 2
 IsElementReport-status input r h = subst (λ (p : Report). p.status < 2) (sym h.reported) (reading_report-status h.reading)
 
--- ---- certificates
+-- ---- fronts
 
-same_certificate : (a b : Certificate) (m n : List ℕ) → (a ≡ b) × (m ≡ n) → certificate_report a m ≡ certificate_report b n
-same_certificate a b m n e = ap (λ x. certificate_report x m) e.0 ∙ ap (certificate_report b) e.1
+same_front : {A : Type 0} (text_of : A → List ℕ → List ℕ) (a b : A) (m n : List ℕ) → (a ≡ b) × (m ≡ n) → front_report text_of a m ≡ front_report text_of b n
+same_front text_of a b m n e = ap (λ x. front_report text_of x m) e.0 ∙ ap (front_report text_of b) e.1
 
 -- what is read of the input, and refused by no reason, gives its one report
-pub accepted_only : (input : List ℕ) (value : Certificate) (rest : List ℕ) (report : Report)
-    → IsFront (certificate false) input value rest
-    → ((a b : Certificate) (m n : List ℕ) → IsFront (certificate false) input a m → IsFront (certificate false) input b n → (a ≡ b) × (m ≡ n))
-    → ((e : Refusal X509Error) → (certificate false).Refuses input e → refusing e ≡ got value rest)
-    → report ≡ certificate_report value rest → IsOnly (IsCertificateReport input) report
-accepted_only input value rest report front only refuses is = record {
+pub accepted_only : {A : Type 0} (plan : Field A) (text_of : A → List ℕ → List ℕ) (input : List ℕ) (value : A) (rest : List ℕ) (report : Report)
+    → IsFront plan input value rest
+    → ((a b : A) (m n : List ℕ) → IsFront plan input a m → IsFront plan input b n → (a ≡ b) × (m ≡ n))
+    → ((e : Refusal X509Error) → plan.Refuses input e → refusing e ≡ got value rest)
+    → report ≡ front_report text_of value rest → IsOnly (IsFrontReport plan text_of input) report
+accepted_only plan text_of input value rest report front only refuses is = record {
   is = inl (record { value = value; rest = rest; front = front; reported = is });
   only = λ y h. elim h [
-    | inl a ↦ a.reported ∙ same_certificate a.value value a.rest rest (only a.value value a.rest rest a.front front) ∙ sym is
+    | inl a ↦ a.reported ∙ same_front text_of a.value value a.rest rest (only a.value value a.rest rest a.front front) ∙ sym is
     | inr r ↦ absurd (got_not_err value rest r.reason (sym (refuses r.reason r.refused)))
   ];
 }
 
 -- and so does the reason of a refusal that is not want of memory
-pub refused_only : (input : List ℕ) (reason : Refusal X509Error) (report : Report)
+pub refused_only : {A : Type 0} (plan : Field A) (text_of : A → List ℕ → List ℕ) (input : List ℕ) (reason : Refusal X509Error) (report : Report)
     → is_excused is_x509_memory true reason ≡ false
-    → (is_excused is_x509_memory true reason ≡ false → (certificate false).Refuses input reason)
-    → ((a : Certificate) (m : List ℕ) → IsFront (certificate false) input a m → cond (is_excused is_x509_memory true reason) (Unit {0}) (got a m ≡ err reason))
-    → ((e : Refusal X509Error) → (certificate false).Refuses input e → cond (is_excused is_x509_memory true reason) (Unit {0}) (err {A = Certificate} e ≡ err reason))
-    → report ≡ refused_report x509_word reason → IsOnly (IsCertificateReport input) report
-refused_only input reason report own refused accepts refuses is = record {
+    → (is_excused is_x509_memory true reason ≡ false → plan.Refuses input reason)
+    → ((a : A) (m : List ℕ) → IsFront plan input a m → cond (is_excused is_x509_memory true reason) (Unit {0}) (got a m ≡ err reason))
+    → ((e : Refusal X509Error) → plan.Refuses input e → cond (is_excused is_x509_memory true reason) (Unit {0}) (err {A = A} e ≡ err reason))
+    → report ≡ refused_report x509_word reason → IsOnly (IsFrontReport plan text_of input) report
+refused_only {A} plan text_of input reason report own refused accepts refuses is = record {
   is = inr (record { reason = reason; refused = refused own; reported = is });
   only = λ y h. elim h [
     | inl a ↦ absurd (got_not_err a.value a.rest reason (rw own at accepts a.value a.rest a.front))
-    | inr r ↦ r.reported ∙ ap (refused_report x509_word) (err_is Certificate r.reason reason (rw own at refuses r.reason r.refused)) ∙ sym is
+    | inr r ↦ r.reported ∙ ap (refused_report x509_word) (err_is A r.reason reason (rw own at refuses r.reason r.refused)) ∙ sym is
   ];
 }
 
@@ -75,6 +82,13 @@ pub lines_more : {X Y : Type 0} (line_of : Y → List ℕ) (value : X → Y) (be
     → before ++ flat_map line_of (map value (take i xs)) ++ line_of (value (get_or xs i d)) ≡ before ++ flat_map line_of (map value (take (i + 1) xs))
 lines_more line_of value before xs i d lt =
     rw (take_more xs i d lt, map-append value (take i xs) (get_or xs i d ∷ [])) (flat_map_more line_of before (map value (take i xs)) (value (get_or xs i d)))
+
+-- the line of a field that may be absent
+pub optional_line : {X A : Type 0} (view : X → A) (text : A → List ℕ) (label before after : List ℕ) (o : Option X)
+    → MatchOption o (after ≡ before ++ line label (codes "none")) (λ held. after ≡ before ++ line label (text (view held)))
+    → after ≡ before ++ line label (or_none text (option_view view o))
+optional_line view text label before after None h = h
+optional_line view text label before after (Some x) h = h
 
 -- ---- commands
 
@@ -86,17 +100,19 @@ refusal-status : {E : Type 0} (word_of : E → List ℕ) (refusal : Refusal E) �
 unfolding refused_report
 refusal-status word_of refusal = omega arith
 
-IsCertificateReport-status : (input : List ℕ) (r : Report) → IsCertificateReport input r → r.status < 2
-IsCertificateReport-status input r (inl h) = subst (λ (p : Report). p.status < 2) (sym h.reported) (omega arith)
-IsCertificateReport-status input r (inr h) = subst (λ (p : Report). p.status < 2) (sym h.reported) (refusal-status x509_word h.reason)
+IsFrontReport-status : {A : Type 0} (plan : Field A) (text_of : A → List ℕ → List ℕ) (input : List ℕ) (r : Report) → IsFrontReport plan text_of input r → r.status < 2
+IsFrontReport-status plan text_of input r (inl h) = subst (λ (p : Report). p.status < 2) (sym h.reported) (omega arith)
+IsFrontReport-status plan text_of input r (inr h) = subst (λ (p : Report). p.status < 2) (sym h.reported) (refusal-status x509_word h.reason)
 
 pub IsReport-status : (input : List ℕ) (named : Command) (r : Report) → IsReport (command_word named) input r → r.status < 2
 IsReport-status input commands.Der r h = IsElementReport-status input r (h.der refl)
-IsReport-status input commands.Cert r h = IsCertificateReport-status input r (h.cert refl)
+IsReport-status input commands.Cert r h = IsFrontReport-status (certificate false) certificate_text input r (h.cert refl)
+IsReport-status input commands.Crl r h = IsFrontReport-status certificate_list list_text input r (h.crl refl)
+IsReport-status input commands.Csr r h = IsFrontReport-status certification_request request_text input r (h.csr refl)
 
 pub IsReport-usage : (command input : List ℕ) → ¬ IsCommand command → IsOnly (IsReport command input) usage_report
 IsReport-usage command input not = record {
-  is = record { der = λ der. absurd (not (inl der)); cert = λ cert. absurd (not (inr cert)); other = λ _. refl };
+  is = record { der = λ der. absurd (not (inl der)); cert = λ cert. absurd (not (inr (inl cert))); crl = λ crl. absurd (not (inr (inr (inl crl)))); csr = λ csr. absurd (not (inr (inr (inr csr)))); other = λ _. refl };
   only = λ y p. p.other not;
 }
 

@@ -5,20 +5,26 @@ use Rattle.x509_show.specs.declared.commands.Command.TheVariants as commands
 use Rattle.x509_show.specs.Report.{Report}
 use Rattle.x509_show.specs.ElementReport.{IsElementReport}
 use Rattle.x509_show.specs.CertificateReport.{IsCertificateReport}
+use Rattle.x509_show.specs.ListReport.{IsListReport}
+use Rattle.x509_show.specs.RequestReport.{IsRequestReport}
 
 abbrev pub usage_report : Report
 usage_report = record { text = codes "usage: x509_show der|cert|crl|csr\n"; status = 2 }
 
 -- the words that have a report of an input
 abbrev pub IsCommand : List ℕ → Type 0
-IsCommand command = (command ≡ codes "der") ⊎ (command ≡ codes "cert")
+IsCommand command = (command ≡ codes "der") ⊎ (command ≡ codes "cert") ⊎ (command ≡ codes "crl") ⊎ (command ≡ codes "csr")
 
 -- The report of an input under a command, or under any other words.
 pub record IsReport (command input : List ℕ) (report : Report) : Type 0 where
   pub der : command ≡ codes "der" → IsElementReport input report
   pub cert : command ≡ codes "cert" → IsCertificateReport input report
+  pub crl : command ≡ codes "crl" → IsListReport input report
+  pub csr : command ≡ codes "csr" → IsRequestReport input report
   pub other : ¬ IsCommand command → report ≡ usage_report
 
 abbrev pub command_word : Command → List ℕ
 command_word commands.Der = codes "der"
 command_word commands.Cert = codes "cert"
+command_word commands.Crl = codes "crl"
+command_word commands.Csr = codes "csr"

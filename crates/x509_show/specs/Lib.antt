@@ -1,7 +1,11 @@
 pub mod Parts
 pub mod Report
 pub mod ElementReport
+pub mod Lines
+pub mod FrontReport
 pub mod CertificateReport
+pub mod ListReport
+pub mod RequestReport
 pub mod Commands
 pub mod Runs
 pub mod Words

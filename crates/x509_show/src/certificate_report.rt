@@ -1,56 +1,16 @@
 //! The report of a certificate.
 
-ghost use Rattle.std.specs.Prelude.{◌≡◌, ◌++◌, IfSome, OnOk, MatchResult, flat_map, map, string_bytes};
-ghost use Rattle.x509_extensions.specs.Extension.{extension_of};
+ghost use Rattle.std.specs.Prelude.{◌≡◌, MatchResult, string_bytes};
 ghost use Rattle.x509_certs.specs.Certificate.{certificate_of};
 ghost use Rattle.x509_show.specs.declared.stop.Stop.TheVariants.{Memory};
 ghost use Rattle.x509_show.specs.Report.{IsOnly};
-ghost use Rattle.x509_show.specs.CertificateReport.{IsCertificateReport, critical_word, line, extension_line, certificate_text};
+ghost use Rattle.x509_show.specs.CertificateReport.{IsCertificateReport, certificate_text};
 
+use crate::lines::{push_extensions, push_line};
 use crate::report::{Report, refused};
 use crate::stop::Stop;
-use std::alloc::{AllocError, Global};
-use std::fmt;
+use std::alloc::Global;
 use x509_parser::certificate::{X509Certificate, X509CertificateParser};
-use x509_parser::extensions::X509Extension;
-
-/// Whether an extension is critical, in a word.
-fn critical_word(critical: bool) -> &'static str
-    ensures { result.now ≡ critical_word critical }
-{
-    if critical { "critical" } else { "normal" }
-}
-
-/// Adds a line: a label, a colon and a space, what the value shows, and a newline.
-#[tactic(auto, unfolding(crate::specs::CertificateReport::line))]
-fn push_line<T: fmt::Display>(text: &mut String, label: &str, value: &T) -> Result<(), AllocError>
-    ensures { OnOk result (IfSome (T.output value.now) (λ shown. string_bytes text.new ≡ string_bytes text.old ++ line label.now shown)) }
-{
-    writeln!(text, "{label}: {value}")
-}
-
-/// Adds the line of an extension.
-fn push_extension(text: &mut String, extension: &X509Extension<'_>) -> Result<(), AllocError>
-    ensures { OnOk result (string_bytes text.new ≡ string_bytes text.old ++ extension_line (extension_of extension.now)) }
-{
-    let (oid, critical) = (&extension.oid, critical_word(extension.critical));
-    let length = extension.value.len();
-    push_line(
-        text,
-        "extension",
-        &format_args!("{oid} {critical} {length}"),
-    )
-}
-
-/// Adds the line of each extension.
-fn push_extensions(text: &mut String, extensions: &[X509Extension<'_>]) -> Result<(), AllocError>
-    ensures { OnOk result (string_bytes text.new ≡ string_bytes text.old ++ flat_map extension_line (map extension_of extensions.now)) }
-{
-    for extension in extensions {
-        push_extension(text, extension)?;
-    }
-    Ok(())
-}
 
 /// The lines of a certificate, and of the bytes behind it.
 #[tactic(auto, unfolding(crate::specs::CertificateReport::certificate_text))]

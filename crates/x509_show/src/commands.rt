@@ -7,7 +7,9 @@ ghost use Rattle.x509_show.specs.Commands.{IsCommand, IsReport, command_word};
 
 use crate::certificate_report::certificate_report;
 use crate::element_report::element_report;
+use crate::list_report::list_report;
 use crate::report::Report;
+use crate::request_report::request_report;
 use crate::stop::Stop;
 use std::alloc::Global;
 
@@ -18,6 +20,10 @@ pub enum Command {
     Der,
     /// The certificate at the front.
     Cert,
+    /// The list of revoked certificates at the front.
+    Crl,
+    /// The certification request at the front.
+    Csr,
 }
 
 impl Command {
@@ -28,6 +34,8 @@ impl Command {
         match word {
             "der" => Some(Command::Der),
             "cert" => Some(Command::Cert),
+            "crl" => Some(Command::Crl),
+            "csr" => Some(Command::Csr),
             _ => None,
         }
     }
@@ -39,6 +47,8 @@ impl Command {
         match self {
             Command::Der => Ok(element_report(alloc, input)?),
             Command::Cert => certificate_report(alloc, input),
+            Command::Crl => list_report(alloc, input),
+            Command::Csr => request_report(alloc, input),
         }
     }
 }

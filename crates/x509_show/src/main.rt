@@ -4,8 +4,11 @@
 mod certificate_report;
 mod commands;
 mod element_report;
+mod lines;
+mod list_report;
 mod parts;
 mod report;
+mod request_report;
 mod runs;
 mod stop;
 mod streams;

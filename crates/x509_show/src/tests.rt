@@ -2,7 +2,9 @@
 
 mod certificates;
 mod large;
+mod lists;
 mod memory;
+mod requests;
 
 use self::memory::{MemorySink, MemorySource};
 use crate::element_report::element_report;
@@ -71,7 +73,7 @@ fn inputs(rt: HostRuntime) -> Result<(), Fail> {
 
 #[test]
 fn other_words(rt: HostRuntime) -> Result<(), Fail> {
-    for command in ["", "crl", "csr", "pem", "der x"] {
+    for command in ["", "crls", "cs", "pem", "der x"] {
         let mut from = MemorySource::new(CERTIFICATE, 0, 1);
         let mut to = MemorySink::new(Vec::new(rt.alloc()), 1000, 1000, 5);
         assert_eq!(rt; run(rt.alloc(), command, &mut from, &mut to), 2);

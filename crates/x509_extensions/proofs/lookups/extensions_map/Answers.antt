@@ -1,11 +1,11 @@
 use Rattle.std.proofs.Common.{sym, ap, ◌∙◌, refl, inr, is_some}
 use Rattle.std.specs.HashMap.{get}
 use Rattle.x509_extensions.proofs.Mapped.{distinct-more, distinct-not, map-more-item}
-use Rattle.x509_extensions.specs.Lookups.{oid_eq, all_distinct_after}
+use Rattle.x509_extensions.specs.Lookups.{oid_eq, distinct_after}
 use Rattle.x509_extensions.proofs.lookups.extensions_map.Goals as goal
 
 pub loop-extension-init : goal.loop-extension-init
-unfolding all_distinct_after
+unfolding distinct_after
 loop-extension-init g c = record { distinct = refl; entries = λ q. rw c.with_hasher-map.ensures.empty refl }
 
 pub returns-then-is_some-clause-refused : goal.returns-then-is_some-clause-refused
@@ -13,7 +13,7 @@ returns-then-is_some-clause-refused g c =
     let map = get oid_eq c.loop-extension.map in
     let old = sym (ap is_some c.in-Ok.ensures.old) ∙ (sym c.is_some.ensures ∙ c.if-is_some.true) in
     let here = ap (λ x. is_some (map x.oid)) (sym c.extension-item.is) ∙ old in
-    inr (refl, distinct-not map c.args.extensions.now c.loop-extension.extension-index c.extension-item.result c.loop-extension-test.true c.loop-extension.invariant.entries here)
+    inr (refl, distinct-not (λ e. e.oid) map c.args.extensions.now c.loop-extension.extension-index c.extension-item.result c.loop-extension-test.true c.loop-extension.invariant.entries here)
 
 pub loop-extension-preserved : goal.loop-extension-preserved
 loop-extension-preserved g c =
@@ -25,6 +25,6 @@ loop-extension-preserved g c =
     let new = sym (ap is_some c.in-Ok.ensures.old) ∙ (sym c.is_some.ensures ∙ c.if-is_some.false) in
     let here = ap (λ x. is_some (map x.oid)) (sym c.extension-item.is) ∙ new in
     record {
-      distinct = distinct-more map extensions k item c.loop-extension-test.true c.loop-extension.invariant.distinct known here;
-      entries = map-more-item map (get oid_eq c.insert.new.self) extensions k item _ c.loop-extension-test.true c.extension-item.is refl known c.in-Ok.ensures.updates.0 new;
+      distinct = distinct-more (λ e. e.oid) map extensions k item c.loop-extension-test.true c.loop-extension.invariant.distinct known here;
+      entries = map-more-item (λ e. e.oid) map (get oid_eq c.insert.new.self) extensions k item _ c.loop-extension-test.true c.extension-item.is refl known c.in-Ok.ensures.updates.0 new;
     }

@@ -1,7 +1,7 @@
-use Rattle.std.proofs.Common.{rules, sym, ap, ◌∙◌, arith, ◌≤◌, length}
+use Rattle.std.proofs.Common.{rules, sym, ap, ◌∙◌, arith}
 use Rattle.x509_der.specs.Oid.{oid_bytes}
 use Rattle.x509_extensions.proofs.Only.{only-all, only-twice}
-use Rattle.x509_extensions.specs.Lookups.{has_oid, unique_of, pointed, only}
+use Rattle.x509_extensions.specs.Lookups.{has_oid}
 use Rattle.x509_extensions.proofs.lookups.get_extension_unique.Goals as goal
 
 pub returns-then-is_some : goal.returns-then-is_some

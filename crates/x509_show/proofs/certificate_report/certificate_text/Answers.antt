@@ -6,7 +6,8 @@ use Rattle.x509_fields.specs.NameTexts.{shown_name}
 use Rattle.x509_fields.specs.Times.{time_of, time_text}
 use Rattle.x509_fields.specs.Version.{version_text}
 use Rattle.x509_extensions.specs.Extension.{extension_of}
-use Rattle.x509_show.specs.CertificateReport.{line, extension_line, certificate_text}
+use Rattle.x509_show.specs.CertificateReport.{certificate_text}
+use Rattle.x509_show.specs.Lines.{line, extension_line}
 use Rattle.x509_show.proofs.certificate_report.certificate_text.Goals as goal
 
 pub returns : goal.returns

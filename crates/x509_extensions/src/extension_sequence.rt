@@ -1,0 +1,58 @@
+//! A SEQUENCE of extensions as a field: of an entry of a list, or of a request.
+
+ghost use Rattle.std.specs.Prelude.{◌+◌, List, true};
+ghost use Rattle.x509_der.specs.Primitives.{is_constructed};
+ghost use Rattle.x509_der.specs.Reading.{strict};
+ghost use Rattle.x509_extensions.specs.Extension.{Extension};
+ghost use Rattle.x509_extensions.specs.ExtensionList.{extensions_of, extensions, extensions_heads, extensions_laws};
+
+use crate::extension::X509Extension;
+use std::alloc::Global;
+use x509_der::{Err, FromDer, Place, Sequence, Tries, read_to_end};
+use x509_fields::{X509Error, sequence_at};
+
+/// Extensions, with what their values say (RFC 5280, section 4.1.2.9).
+///
+/// ```text
+/// Extensions  ::=  SEQUENCE SIZE (1..MAX) OF Extension
+/// ```
+///
+/// The SEQUENCE may be empty. It is read to its end: where what stands in it is no extension, `NomError(Eof)`.
+#[derive(Drop)]
+pub struct ExtensionSequence<'a> {
+    /// The extensions, in order; two may have one identifier.
+    pub list: Sequence<X509Extension<'a>>,
+}
+
+impl<'a> FromDer<'a, X509Error> for ExtensionSequence<'a> {
+    ghost Value = { List Extension };
+
+    ghost view = { extensions_of };
+
+    ghost plan = { extensions true };
+
+    ghost laws = { (extensions_laws true).laws.lawful };
+
+    ghost marked = { (extensions_laws true).marked };
+
+    ghost form = { strict };
+
+    ghost own_tag = { is_constructed 16 };
+
+    ghost heads = { extensions_heads };
+
+    ghost takes_memory = { true };
+
+    #[tactic(auto, unfolding(crate::specs::ExtensionList::extensions), using(x509_der::proofs::Marking::marks_of_readers))]
+    fn read_at(
+        alloc: Global,
+        tries: &mut Tries,
+        place: &Place<'a>,
+    ) -> Result<(Self, bool), Err<X509Error>> {
+        let contents = sequence_at(place)?;
+        let (list, plain) = read_to_end(alloc, tries, contents)?;
+        Ok((ExtensionSequence { list }, plain))
+    }
+
+    ghost never_memory = { (extensions_laws true).laws.never_memory };
+}

@@ -1,0 +1,6 @@
+pub mod RevokedCertificate
+pub mod RevokedList
+pub mod NextUpdate
+pub mod Issue
+pub mod TbsCertList
+pub mod CertificateList

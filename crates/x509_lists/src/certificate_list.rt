@@ -1,0 +1,144 @@
+//! Lists of revoked certificates.
+
+ghost use Rattle.std.specs.Prelude.{◌≡◌, true};
+ghost use Rattle.x509_der.specs.Primitives.{is_constructed};
+ghost use Rattle.x509_der.specs.Reading.{strict};
+ghost use Rattle.x509_signed.specs.Signed.{Signed};
+ghost use Rattle.x509_lists.specs.RevokedList.{revoked_left};
+ghost use Rattle.x509_lists.specs.TbsCertList.{TbsList};
+ghost use Rattle.x509_lists.specs.CertificateList.{list_of, list_heads, certificate_list, certificate_list_laws};
+
+use crate::revoked_iter::RevokedIter;
+use crate::tbs_cert_list::TbsCertList;
+use std::alloc::Global;
+use x509_der::{BitString, Err, FromDer, Place, Tries};
+use x509_extensions::X509Extension;
+use x509_fields::{ASN1Time, AlgorithmIdentifier, X509Error, X509Name, X509Version};
+use x509_signed::{Signed, read_signed};
+
+/// A list of revoked certificates (RFC 5280, section 5.1). Its signature is not looked into.
+///
+/// ```text
+/// CertificateList  ::=  SEQUENCE  {
+///     tbsCertList         TBSCertList,
+///     signatureAlgorithm  AlgorithmIdentifier,
+///     signatureValue      BIT STRING  }
+/// ```
+#[derive(Debug, Drop)]
+pub struct CertificateRevocationList<'a> {
+    /// The part that is signed.
+    pub tbs_cert_list: TbsCertList<'a>,
+    /// The algorithm of the signature.
+    pub signature_algorithm: AlgorithmIdentifier<'a>,
+    /// The bits of the signature.
+    pub signature_value: BitString<'a>,
+    pub(crate) raw: &'a [u8],
+}
+
+impl<'a> CertificateRevocationList<'a> {
+    /// The version, where one is written that can be read.
+    pub fn version(&self) -> Option<X509Version>
+        ensures { result ≡ self.now.tbs_cert_list.version }
+    {
+        self.tbs_cert_list.version
+    }
+
+    /// Who signed the list.
+    pub fn issuer(&self) -> &X509Name<'a>
+        ensures { result.now ≡ self.now.tbs_cert_list.issuer }
+    {
+        &self.tbs_cert_list.issuer
+    }
+
+    /// When the list was made.
+    pub fn last_update(&self) -> ASN1Time
+        ensures { result ≡ self.now.tbs_cert_list.this_update }
+    {
+        self.tbs_cert_list.this_update
+    }
+
+    /// When the next list comes at the latest, where that is said.
+    pub fn next_update(&self) -> Option<ASN1Time>
+        ensures { result ≡ self.now.tbs_cert_list.next_update }
+    {
+        self.tbs_cert_list.next_update
+    }
+
+    /// Iterates over the certificates that were revoked, in order.
+    pub fn iter_revoked_certificates(&self) -> RevokedIter<'_, 'a>
+        ensures { revoked_left result ≡ self.now.tbs_cert_list.revoked_certificates }
+    {
+        RevokedIter::new(self.tbs_cert_list.revoked_certificates.as_slice())
+    }
+
+    /// The extensions, in order; two may have one identifier.
+    pub fn extensions(&self) -> &[X509Extension<'a>]
+        ensures { result.now ≡ self.now.tbs_cert_list.extensions }
+    {
+        self.tbs_cert_list.extensions()
+    }
+
+    /// The bytes of the list: the whole element, with its header.
+    pub fn as_raw(&self) -> &'a [u8]
+        ensures { result.now ≡ (list_of self.now).raw }
+    {
+        self.raw
+    }
+
+    /// The same as [`CertificateRevocationList::as_raw`].
+    pub fn as_ref(&self) -> &'a [u8]
+        ensures { result.now ≡ (list_of self.now).raw }
+    {
+        self.as_raw()
+    }
+}
+
+/// The list, its extensions with what their values say.
+impl<'a> FromDer<'a, X509Error> for CertificateRevocationList<'a> {
+    ghost Value = { Signed TbsList };
+
+    ghost view = { list_of };
+
+    ghost plan = { certificate_list };
+
+    ghost laws = { certificate_list_laws.laws.lawful };
+
+    ghost marked = { certificate_list_laws.marked };
+
+    ghost form = { strict };
+
+    ghost own_tag = { is_constructed 16 };
+
+    ghost heads = { list_heads };
+
+    ghost takes_memory = { true };
+
+    #[tactic(auto, unfolding(crate::specs::CertificateList::certificate_list))]
+    fn read_at(
+        alloc: Global,
+        tries: &mut Tries,
+        place: &Place<'a>,
+    ) -> Result<(Self, bool), Err<X509Error>> {
+        let (
+            Signed {
+                tbs,
+                signature_algorithm,
+                signature_value,
+                raw,
+            },
+            plain,
+        ) = match read_signed(alloc, tries, place) {
+            Ok(read) => read,
+            Err(e) => return Err(e),
+        };
+        let list = CertificateRevocationList {
+            tbs_cert_list: tbs,
+            signature_algorithm,
+            signature_value,
+            raw,
+        };
+        Ok((list, plain))
+    }
+
+    ghost never_memory = { certificate_list_laws.laws.never_memory };
+}

@@ -1,0 +1,42 @@
+//! Reading whole lists.
+
+ghost use Rattle.std.specs.Prelude.{true, IfOk};
+ghost use Rattle.x509_der.specs.Promises.{ReadsExactly};
+ghost use Rattle.x509_fields.specs.Errors.{is_x509_memory};
+ghost use Rattle.x509_lists.specs.CertificateList.{ListStands, list_of, certificate_list};
+
+use crate::certificate_list::CertificateRevocationList;
+use std::alloc::Global;
+use x509_der::FromDer;
+use x509_fields::X509Result;
+
+/// Reads the list of revoked certificates at the front of the bytes (RFC 5280, section 5.1), and gives what stands behind it.
+///
+/// # Errors
+///
+/// Those of the first field in reading order that can't be read, and `Failure(OutOfMemory)`. Revoked certificates of which one
+/// can't be read are refused all together: then the wrapper of the list's extensions is missed where they stand,
+/// `Error(InvalidExtensions)`.
+pub fn parse_x509_crl<'a>(
+    alloc: Global,
+    i: &'a [u8],
+) -> X509Result<'a, CertificateRevocationList<'a>>
+    ensures exact { ReadsExactly is_x509_memory true (λ x. (x.0.now, list_of x.1)) certificate_list i.now result }
+    ensures stands { IfOk result (λ x. ListStands i.now (list_of x.1) x.0.now) }
+{
+    match CertificateRevocationList::from_der(alloc, i) {
+        Ok((rest, list)) => Ok((rest, list)),
+        Err(e) => Err(e),
+    }
+}
+
+/// The same as [`parse_x509_crl`].
+pub fn parse_crl_der<'a>(
+    alloc: Global,
+    i: &'a [u8],
+) -> X509Result<'a, CertificateRevocationList<'a>>
+    ensures exact { ReadsExactly is_x509_memory true (λ x. (x.0.now, list_of x.1)) certificate_list i.now result }
+    ensures stands { IfOk result (λ x. ListStands i.now (list_of x.1) x.0.now) }
+{
+    parse_x509_crl(alloc, i)
+}

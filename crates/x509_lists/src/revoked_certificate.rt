@@ -1,0 +1,127 @@
+//! A certificate on a list of revoked ones.
+
+ghost use Rattle.std.specs.Prelude.{◌≡◌, ◌+◌, MatchResult, codes, string_bytes, length, true};
+ghost use Rattle.x509_der.specs.Hex.{hex_text};
+ghost use Rattle.x509_der.specs.Primitives.{is_constructed};
+ghost use Rattle.x509_der.specs.Reading.{strict};
+ghost use Rattle.x509_fields.specs.declared.error.X509Error.TheVariants.{OutOfMemory};
+ghost use Rattle.x509_extensions.specs.ExtensionList.{extensions_left};
+ghost use Rattle.x509_lists.specs.RevokedCertificate.{Revoked, revoked_of, revoked, revoked_heads, revoked_laws};
+
+use std::alloc::Global;
+use x509_der::{Elements, Err, FromDer, Place, Sequence, Tries, UnsignedBytes, field_at, soft_at};
+use x509_extensions::{ExtensionIter, ExtensionSequence, X509Extension};
+use x509_fields::{ASN1Time, X509Error, format_serial, sequence_at};
+use x509_signed::read_serial;
+
+/// A certificate that was revoked (RFC 5280, section 5.1.2.6).
+///
+/// ```text
+/// SEQUENCE  {
+///     userCertificate     CertificateSerialNumber,
+///     revocationDate      Time,
+///     crlEntryExtensions  Extensions OPTIONAL  }
+/// ```
+///
+/// Extensions that can't be read are as good as none.
+#[derive(Debug, Drop, PartialEq)]
+pub struct RevokedCertificate<'a> {
+    /// The serial of the certificate as an unsigned number, whatever its sign.
+    pub user_certificate: UnsignedBytes<'a>,
+    /// When it was revoked.
+    pub revocation_date: ASN1Time,
+    pub(crate) extensions: Sequence<X509Extension<'a>>,
+    pub(crate) raw_serial: &'a [u8],
+}
+
+impl<'a> RevokedCertificate<'a> {
+    /// The serial of the certificate as an unsigned number, whatever its sign.
+    pub fn serial(&self) -> &UnsignedBytes<'a>
+        ensures { result.now ≡ self.now.user_certificate }
+    {
+        &self.user_certificate
+    }
+
+    /// The extensions, in order; two may have one identifier.
+    pub fn extensions(&self) -> &[X509Extension<'a>]
+        ensures { result.now ≡ self.now.extensions }
+    {
+        self.extensions.as_slice()
+    }
+
+    /// Iterates over the extensions, in order.
+    pub fn iter_extensions(&self) -> ExtensionIter<'_, 'a>
+        ensures { extensions_left result ≡ self.now.extensions }
+    {
+        ExtensionIter::new(self.extensions())
+    }
+
+    /// The contents octets of the serial, as they stand.
+    pub fn raw_serial(&self) -> &'a [u8]
+        ensures { result.now ≡ (revoked_of self.now).raw_serial }
+    {
+        self.raw_serial
+    }
+
+    /// The contents octets of the serial in lower-case hex with colons between them, as `01:02:ff`.
+    ///
+    /// # Errors
+    ///
+    /// `OutOfMemory`.
+    pub fn raw_serial_as_string(&self, alloc: Global) -> Result<String, X509Error>
+        ensures { MatchResult result (λ s. string_bytes s ≡ hex_text (codes ":") (revoked_of self.now).raw_serial) (λ e. e ≡ OutOfMemory) }
+    {
+        format_serial(alloc, self.raw_serial)
+    }
+}
+
+/// The extensions are read with what their values say.
+impl<'a> FromDer<'a, X509Error> for RevokedCertificate<'a> {
+    ghost Value = { Revoked };
+
+    ghost view = { revoked_of };
+
+    ghost plan = { revoked };
+
+    ghost laws = { revoked_laws.laws.lawful };
+
+    ghost marked = { revoked_laws.marked };
+
+    ghost form = { strict };
+
+    ghost own_tag = { is_constructed 16 };
+
+    ghost heads = { revoked_heads };
+
+    ghost takes_memory = { true };
+
+    #[tactic(auto, unfolding(crate::specs::RevokedCertificate::revoked), using(x509_der::proofs::Marking::marks_of_readers))]
+    fn read_at(
+        alloc: Global,
+        tries: &mut Tries,
+        place: &Place<'a>,
+    ) -> Result<(Self, bool), Err<X509Error>> {
+        let contents = sequence_at(place)?;
+        let children: Elements<'_, 3> = Elements::cut(tries, contents);
+        let (k, raw_serial, serial_plain) = read_serial(&children, 0)?;
+        let (k, revocation_date, date_plain) = match field_at(alloc, tries, &children, k) {
+            Ok((k, date, plain)) => (k, date, plain),
+            Err(e) => return Err(e),
+        };
+        let (k, sequence, extensions_plain) = soft_at(alloc, tries, &children, k)?;
+        let extensions = match sequence {
+            Some(ExtensionSequence { list }) => list,
+            None => Sequence::new(alloc),
+        };
+        let revoked = RevokedCertificate {
+            user_certificate: UnsignedBytes::new(raw_serial),
+            revocation_date,
+            extensions,
+            raw_serial,
+        };
+        let plain = serial_plain & (date_plain & extensions_plain);
+        Ok((revoked, plain & children.at(k).bytes().is_empty()))
+    }
+
+    ghost never_memory = { revoked_laws.laws.never_memory };
+}

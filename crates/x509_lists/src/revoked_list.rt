@@ -1,0 +1,52 @@
+//! The certificates of a list.
+
+ghost use Rattle.std.specs.Prelude.{◌+◌, List, true};
+ghost use Rattle.x509_der.specs.Primitives.{is_constructed};
+ghost use Rattle.x509_der.specs.Reading.{strict};
+ghost use Rattle.x509_lists.specs.RevokedCertificate.{Revoked};
+ghost use Rattle.x509_lists.specs.RevokedList.{revoked_list_of, revoked_list, revoked_list_heads, revoked_list_laws};
+
+use crate::revoked_certificate::RevokedCertificate;
+use std::alloc::Global;
+use x509_der::{Err, FromDer, Place, Sequence, Tries, read_to_end};
+use x509_fields::{X509Error, sequence_at};
+
+/// Certificates that were revoked, in order. All of them are read or none is: where what stands in the SEQUENCE is no such
+/// certificate, `NomError(Eof)`.
+#[derive(Drop)]
+pub(crate) struct RevokedList<'a> {
+    pub(crate) list: Sequence<RevokedCertificate<'a>>,
+}
+
+impl<'a> FromDer<'a, X509Error> for RevokedList<'a> {
+    ghost Value = { List Revoked };
+
+    ghost view = { revoked_list_of };
+
+    ghost plan = { revoked_list };
+
+    ghost laws = { revoked_list_laws.laws.lawful };
+
+    ghost marked = { revoked_list_laws.marked };
+
+    ghost form = { strict };
+
+    ghost own_tag = { is_constructed 16 };
+
+    ghost heads = { revoked_list_heads };
+
+    ghost takes_memory = { true };
+
+    #[tactic(auto, unfolding(crate::specs::RevokedList::revoked_list), using(x509_der::proofs::Marking::marks_of_readers))]
+    fn read_at(
+        alloc: Global,
+        tries: &mut Tries,
+        place: &Place<'a>,
+    ) -> Result<(Self, bool), Err<X509Error>> {
+        let contents = sequence_at(place)?;
+        let (list, plain) = read_to_end(alloc, tries, contents)?;
+        Ok((RevokedList { list }, plain))
+    }
+
+    ghost never_memory = { revoked_list_laws.laws.never_memory };
+}

@@ -1,0 +1,142 @@
+//! The part of a list that is signed.
+
+ghost use Rattle.std.specs.Prelude.{◌≡◌, ◌+◌, ◌-◌, length, true};
+ghost use Rattle.x509_der.specs.Primitives.{is_constructed};
+ghost use Rattle.x509_der.specs.Reading.{strict};
+ghost use Rattle.x509_extensions.specs.ExtensionList.{extensions_left};
+ghost use Rattle.x509_lists.specs.RevokedList.{revoked_left};
+ghost use Rattle.x509_lists.specs.TbsCertList.{TbsList, tbs_list_of, tbs_list_heads, tbs_list, tbs_list_laws};
+
+use crate::issue::read_issue;
+use crate::list_version::read_version;
+use crate::revoked_certificate::RevokedCertificate;
+use crate::revoked_list::RevokedList;
+use std::alloc::Global;
+use x509_der::{Elements, Err, FromDer, Place, Sequence, Tries, soft_at};
+use x509_extensions::{ExtensionIter, X509Extension, X509ExtensionParser};
+use x509_fields::{ASN1Time, AlgorithmIdentifier, X509Error, X509Name, X509Version, sequence_at};
+
+/// The part of a list that is signed (RFC 5280, section 5.1.2).
+///
+/// ```text
+/// TBSCertList  ::=  SEQUENCE  {
+///     version              Version OPTIONAL,
+///     signature            AlgorithmIdentifier,
+///     issuer               Name,
+///     thisUpdate           Time,
+///     nextUpdate           Time OPTIONAL,
+///     revokedCertificates  SEQUENCE OF SEQUENCE  {
+///         userCertificate     CertificateSerialNumber,
+///         revocationDate      Time,
+///         crlEntryExtensions  Extensions OPTIONAL  }  OPTIONAL,
+///     crlExtensions        [0]  EXPLICIT Extensions OPTIONAL  }
+/// ```
+#[derive(Debug, Drop, PartialEq)]
+pub struct TbsCertList<'a> {
+    /// The version, where one is written that can be read.
+    pub version: Option<X509Version>,
+    /// The algorithm that the signature is made with, as the signed part names it.
+    pub signature: AlgorithmIdentifier<'a>,
+    /// Who signed the list.
+    pub issuer: X509Name<'a>,
+    /// When the list was made.
+    pub this_update: ASN1Time,
+    /// When the next one comes at the latest, where that is said.
+    pub next_update: Option<ASN1Time>,
+    /// The certificates that were revoked, in order: all of them, or none where none are written.
+    pub revoked_certificates: Sequence<RevokedCertificate<'a>>,
+    pub(crate) extensions: Sequence<X509Extension<'a>>,
+    pub(crate) raw: &'a [u8],
+}
+
+impl<'a> TbsCertList<'a> {
+    /// The extensions, in order; two may have one identifier.
+    pub fn extensions(&self) -> &[X509Extension<'a>]
+        ensures { result.now ≡ self.now.extensions }
+    {
+        self.extensions.as_slice()
+    }
+
+    /// Iterates over the extensions, in order.
+    pub fn iter_extensions(&self) -> ExtensionIter<'_, 'a>
+        ensures { extensions_left result ≡ self.now.extensions }
+    {
+        ExtensionIter::new(self.extensions())
+    }
+
+    /// The bytes that are signed: the whole element, with its header.
+    pub fn as_ref(&self) -> &'a [u8]
+        ensures { result.now ≡ (tbs_list_of self.now).raw }
+    {
+        self.raw
+    }
+}
+
+/// The signed part alone, extensions with what their values say.
+impl<'a> FromDer<'a, X509Error> for TbsCertList<'a> {
+    ghost Value = { TbsList };
+
+    ghost view = { tbs_list_of };
+
+    ghost plan = { tbs_list };
+
+    ghost laws = { tbs_list_laws.laws.lawful };
+
+    ghost marked = { tbs_list_laws.marked };
+
+    ghost form = { strict };
+
+    ghost own_tag = { is_constructed 16 };
+
+    ghost heads = { tbs_list_heads };
+
+    ghost takes_memory = { true };
+
+    #[tactic(auto, unfolding(crate::specs::TbsCertList::tbs_list), using(x509_der::proofs::Marking::marks_of_readers))]
+    fn read_at(
+        alloc: Global,
+        tries: &mut Tries,
+        place: &Place<'a>,
+    ) -> Result<(Self, bool), Err<X509Error>> {
+        let contents = sequence_at(place)?;
+        let children: Elements<'_, 7> = Elements::cut(tries, contents);
+        let (k, version) = read_version(&children);
+        let (k, issue, issue_plain) = match read_issue(alloc, tries, &children, k) {
+            Ok((k, issue, plain)) => (k, issue, plain),
+            Err(e) => return Err(e),
+        };
+        let (k, revoked, revoked_plain) = match soft_at(alloc, tries, &children, k) {
+            Ok((k, revoked, plain)) => (k, revoked, plain),
+            Err(e) => return Err(e),
+        };
+        let parser = X509ExtensionParser::new();
+        let (extensions, extensions_plain) = match parser.read_wrapped_at(
+            alloc,
+            tries,
+            0,
+            &children.at(k),
+        ) {
+            Ok((extensions, plain)) => (extensions, plain),
+            Err(e) => return Err(e),
+        };
+        let revoked_certificates = match revoked {
+            Some(RevokedList { list }) => list,
+            None => Sequence::new(alloc),
+        };
+        let bytes = place.bytes();
+        let tbs = TbsCertList {
+            version,
+            signature: issue.signature,
+            issuer: issue.issuer,
+            this_update: issue.this_update,
+            next_update: issue.next_update,
+            revoked_certificates,
+            extensions,
+            raw: &bytes[..bytes.len() - place.rest().len()],
+        };
+        let plain = issue_plain & (revoked_plain & extensions_plain);
+        Ok((tbs, plain))
+    }
+
+    ghost never_memory = { tbs_list_laws.laws.never_memory };
+}

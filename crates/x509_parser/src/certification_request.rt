@@ -1,0 +1,3 @@
+//! Certification requests (RFC 2986).
+
+pub use x509_requests::{RequestedIter, X509CertificationRequest, X509CertificationRequestInfo};

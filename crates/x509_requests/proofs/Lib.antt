@@ -1,0 +1,4 @@
+pub mod FourOctets
+pub mod Windows
+pub mod ElementSizes
+pub mod AttributeMarks

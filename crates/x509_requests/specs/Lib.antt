@@ -1,0 +1,9 @@
+pub mod PasswordTexts
+pub mod ExtensionRequest
+pub mod CriAttribute
+pub mod AttributeLaws
+pub mod AttributeIter
+pub mod AttributeLookUps
+pub mod RequestInfo
+pub mod Request
+pub mod Requested

@@ -1,0 +1,114 @@
+//! The parts of an attribute.
+
+ghost use Rattle.std.specs.Prelude.{◌≡◌, ◌≤◌, ◌+◌, ◌-◌, ◌*◌, true, IfOk, IsErr, length};
+ghost use Rattle.x509_der.specs.Looks.{behind, is_element};
+ghost use Rattle.x509_der.specs.Place.{at};
+ghost use Rattle.x509_der.specs.Primitives.{is_constructed};
+ghost use Rattle.x509_der.specs.Promises.{IsForeign};
+ghost use Rattle.x509_der.specs.Reading.{Gives, AddsAtLeast, element_of, loose};
+ghost use Rattle.x509_fields.specs.Fields.{lifted};
+ghost use Rattle.x509_requests.specs.CriAttribute.{parts_of, set_of, loose_sequence, attribute_set, attribute_fields, attribute_parts};
+
+use x509_der::{Any, BerError, Class, Err, Header, Oid, Place, Tag, Tries, Two};
+use x509_fields::X509Error;
+
+/// An attribute whose value isn't looked at.
+#[derive(Clone, Copy)]
+pub(crate) struct AttributeParts<'a> {
+    /// The whole attribute.
+    pub(crate) raw: &'a [u8],
+    pub(crate) oid: Oid<'a>,
+    /// The whole SET.
+    pub(crate) set: &'a [u8],
+    /// The SET's header and contents.
+    pub(crate) element: Any<'a>,
+}
+
+// The contents of a SEQUENCE, its length in any octets.
+#[inline(always)]
+#[tactic(auto, unfolding(crate::specs::CriAttribute::loose_sequence, x509_der::specs::Leaves::any_loose, x509_der::specs::Primitives::contents_at))]
+fn loose_sequence_at<'a>(place: &Place<'a>) -> Result<&'a [u8], Err<X509Error>>
+    ensures reads { Gives (λ x. (behind (at place.now), x.now)) result ((lifted loose_sequence).read (at place.now)) }
+    ensures marks { (lifted loose_sequence).marks (at place.now) ≡ true }
+    ensures there { IfOk result (λ _. is_element (at place.now) ≡ true) }
+    ensures sizes { IfOk result (λ x. length (behind (at place.now)) + length x.now + 2 ≤ length (at place.now)) }
+    ensures foreign { IsForeign loose (is_constructed 16) (at place.now) → IsErr result }
+{
+    let (any, _) = place.any_marked().map_err(|e| e.convert())?;
+    match any.header() {
+        Header {
+            class: Class::Universal,
+            constructed: true,
+            tag: Tag(16),
+            ..
+        } => Ok(any.as_bytes()),
+        _ => Err(Err::Error(X509Error::Der(BerError::InvalidTag))),
+    }
+}
+
+// A SET, and its header and contents.
+#[inline(always)]
+#[tactic(auto, unfolding(crate::specs::CriAttribute::attribute_set, x509_der::specs::Leaves::any))]
+fn set_at<'a>(place: &Place<'a>) -> Result<(&'a [u8], Any<'a>), Err<X509Error>>
+    ensures reads { Gives (λ x. (behind (at place.now), set_of x)) result (attribute_set.read (at place.now)) }
+    ensures marks { attribute_set.marks (at place.now) ≡ true }
+    ensures there { IfOk result (λ _. is_element (at place.now) ≡ true) }
+    ensures sizes { IfOk result (λ x. length (behind (at place.now)) + length (element_of x.1).contents + 2 ≤ length (at place.now)) }
+{
+    let element = place
+        .any()
+        .map_err(|_| Err::Error(X509Error::InvalidAttributes))?;
+    if element.tag() != Tag::Set {
+        return Err(Err::Error(X509Error::InvalidAttributes));
+    }
+    let bytes = place.bytes();
+    Ok((&bytes[..bytes.len() - place.rest().len()], element))
+}
+
+// The parts, with their own refusals, and whether nothing stands behind the SET.
+#[tactic(auto, unfolding(crate::specs::CriAttribute::attribute_fields), using(x509_der::proofs::Marking::marks_of_readers))]
+fn read_attribute_fields<'a>(
+    tries: &mut Tries,
+    place: &Place<'a>,
+) -> Result<(AttributeParts<'a>, bool), Err<X509Error>>
+    ensures reads { Gives (λ x. (behind (at place.now), parts_of x.0)) result (attribute_fields.read (at place.now)) }
+    ensures marks { IfOk result (λ x. x.1 ≡ attribute_fields.marks (at place.now)) }
+    ensures grows { tries.old ≤ tries.new }
+    ensures count { IfOk result (λ x. tries.new + 9 + 8 * length (element_of x.0.element).contents + 8 * length (behind (at place.now)) ≤ tries.old + 8 * length (at place.now)) }
+    ensures few_tries { tries.new ≤ tries.old + (8 * length (at place.now) - 8) }
+    ensures foreign { IsForeign loose (is_constructed 16) (at place.now) → IsErr result × (tries.new ≤ tries.old) }
+    ensures least { IfOk result (λ _. AddsAtLeast 2 tries.old tries.new) }
+    ensures there { IfOk result (λ _. is_element (at place.now) ≡ true) }
+{
+    let contents = loose_sequence_at(place)?;
+    let Two { first, second } = Two::cut(tries, contents);
+    let oid = first.oid().map_err(|e| e.convert())?;
+    let (set, element) = set_at(&second)?;
+    let bytes = place.bytes();
+    let parts = AttributeParts {
+        raw: &bytes[..bytes.len() - place.rest().len()],
+        oid,
+        set,
+        element,
+    };
+    Ok((parts, second.rest().is_empty()))
+}
+
+/// The parts of the attribute at a place, and whether nothing stands behind the SET. Every refusal is `InvalidAttributes`.
+#[inline(always)]
+#[tactic(auto, unfolding(crate::specs::CriAttribute::attribute_parts))]
+pub(crate) fn read_attribute_parts<'a>(
+    tries: &mut Tries,
+    place: &Place<'a>,
+) -> Result<(AttributeParts<'a>, bool), Err<X509Error>>
+    ensures reads { Gives (λ x. (behind (at place.now), parts_of x.0)) result (attribute_parts.read (at place.now)) }
+    ensures marks { IfOk result (λ x. x.1 ≡ attribute_parts.marks (at place.now)) }
+    ensures grows { tries.old ≤ tries.new }
+    ensures count { IfOk result (λ x. tries.new + 9 + 8 * length (element_of x.0.element).contents + 8 * length (behind (at place.now)) ≤ tries.old + 8 * length (at place.now)) }
+    ensures few_tries { tries.new ≤ tries.old + (8 * length (at place.now) - 8) }
+    ensures foreign { IsForeign loose (is_constructed 16) (at place.now) → IsErr result × (tries.new ≤ tries.old) }
+    ensures least { IfOk result (λ _. AddsAtLeast 2 tries.old tries.new) }
+    ensures there { IfOk result (λ _. is_element (at place.now) ≡ true) }
+{
+    read_attribute_fields(tries, place).map_err(|_| Err::Error(X509Error::InvalidAttributes))
+}

@@ -1,0 +1,59 @@
+//! Extensions that a request asks for.
+
+ghost use Rattle.std.specs.Prelude.{◌+◌, List, true};
+ghost use Rattle.x509_der.specs.Primitives.{is_constructed};
+ghost use Rattle.x509_der.specs.Reading.{strict};
+ghost use Rattle.x509_extensions.specs.Extension.{Extension};
+ghost use Rattle.x509_extensions.specs.ExtensionList.{extensions, extensions_heads, extensions_laws};
+ghost use Rattle.x509_requests.specs.ExtensionRequest.{request_of};
+
+use std::alloc::Global;
+use x509_der::{Err, FromDer, Place, Sequence, Tries};
+use x509_extensions::{ExtensionSequence, X509Extension};
+use x509_fields::X509Error;
+
+/// Extensions that the certificate is to have (RFC 2985, section 5.4.2), with what their values say.
+///
+/// ```text
+/// extensionRequest  ::=  Extensions
+/// ```
+#[derive(Debug, Drop, PartialEq)]
+pub struct ExtensionRequest<'a> {
+    /// The extensions, in order; two may have one identifier.
+    pub extensions: Sequence<X509Extension<'a>>,
+}
+
+impl<'a> FromDer<'a, X509Error> for ExtensionRequest<'a> {
+    ghost Value = { List Extension };
+
+    ghost view = { request_of };
+
+    ghost plan = { extensions true };
+
+    ghost laws = { (extensions_laws true).laws.lawful };
+
+    ghost marked = { (extensions_laws true).marked };
+
+    ghost form = { strict };
+
+    ghost own_tag = { is_constructed 16 };
+
+    ghost heads = { extensions_heads };
+
+    ghost takes_memory = { true };
+
+    fn read_at(
+        alloc: Global,
+        tries: &mut Tries,
+        place: &Place<'a>,
+    ) -> Result<(Self, bool), Err<X509Error>> {
+        match ExtensionSequence::read_at(alloc, tries, place) {
+            Ok((ExtensionSequence { list }, plain)) => {
+                Ok((ExtensionRequest { extensions: list }, plain))
+            }
+            Err(e) => Err(e),
+        }
+    }
+
+    ghost never_memory = { (extensions_laws true).laws.never_memory };
+}

@@ -1,0 +1,27 @@
+//! Certification requests (RFC 2986) and their attributes (RFC 2985, section 5.4).
+#![tactic(auto)]
+
+mod attribute_kind;
+mod attribute_look_ups;
+mod attribute_parts;
+mod cri_attribute;
+mod cri_attribute_iter;
+mod extension_request;
+mod laws;
+mod password;
+mod request;
+mod request_attributes;
+mod request_info;
+mod requested_iter;
+
+pub use cri_attribute::{ParsedCriAttribute, X509CriAttribute};
+pub use cri_attribute_iter::CriAttributeIter;
+pub use extension_request::ExtensionRequest;
+pub use laws::grammar_laws;
+pub use password::ChallengePassword;
+pub use request::X509CertificationRequest;
+pub use request_info::X509CertificationRequestInfo;
+pub use requested_iter::RequestedIter;
+
+#[cfg(test)]
+mod tests;

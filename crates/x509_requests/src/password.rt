@@ -1,0 +1,74 @@
+//! The text of a challenge password.
+
+ghost use Rattle.std.specs.Prelude.{◌≡◌, ◌≤◌, string_bytes, true, IfOk, length};
+ghost use Rattle.x509_der.specs.Looks.{behind, is_element};
+ghost use Rattle.x509_der.specs.Place.{at};
+ghost use Rattle.x509_der.specs.Promises.{Answers};
+ghost use Rattle.x509_fields.specs.Errors.{is_x509_memory};
+ghost use Rattle.x509_fields.specs.NameTexts.{IsText};
+ghost use Rattle.x509_requests.specs.PasswordTexts.{utf32_text, password_text, password};
+
+use std::alloc::Global;
+use x509_der::{Class, Err, Place, Tag};
+use x509_fields::{X509Error, utf8_text, utf16_text};
+
+/// A password by which a certificate can be revoked (RFC 2985, section 5.4.1).
+#[derive(Debug, Drop, PartialEq, Eq)]
+pub struct ChallengePassword(pub String);
+
+/// The password at a place, in any of five types of strings.
+#[tactic(auto, unfolding(crate::specs::PasswordTexts::password, crate::specs::PasswordTexts::password_element, x509_der::specs::Leaves::any))]
+pub(crate) fn read_password<'a>(
+    alloc: Global,
+    place: &Place<'a>,
+) -> Result<ChallengePassword, Err<X509Error>>
+    ensures reads { Answers is_x509_memory true (λ x. (behind (at place.now), string_bytes x.0)) result (password.read (at place.now)) }
+    ensures marks { password.marks (at place.now) ≡ true }
+    ensures there { IfOk result (λ _. is_element (at place.now) ≡ true) }
+{
+    let any = place
+        .any()
+        .map_err(|_| Err::Error(X509Error::InvalidAttributes))?;
+    let header = any.header();
+    if header.constructed || !matches!(header.class, Class::Universal) {
+        return Err(Err::Error(X509Error::InvalidAttributes));
+    }
+    match password_text(alloc, header.tag, any.as_bytes()) {
+        Ok(text) => Ok(ChallengePassword(text)),
+        Err(X509Error::OutOfMemory) => Err(Err::Failure(X509Error::OutOfMemory)),
+        Err(_) => Err(Err::Error(X509Error::InvalidAttributes)),
+    }
+}
+
+// The text of a string with this number.
+fn password_text(alloc: Global, tag: Tag, octets: &[u8]) -> Result<String, X509Error>
+    ensures { IsText string_bytes (password_text tag.0 octets.now) result }
+{
+    match tag {
+        Tag::Utf8String | Tag::PrintableString | Tag::T61String => utf8_text(alloc, octets),
+        Tag::BmpString => utf16_text(alloc, octets),
+        Tag::UniversalString => utf32_text(alloc, octets),
+        _ => Err(X509Error::InvalidAttributes),
+    }
+}
+
+// Characters of four octets, the most significant one first.
+fn utf32_text(alloc: Global, octets: &[u8]) -> Result<String, X509Error>
+    ensures { IsText string_bytes (utf32_text octets.now) result }
+{
+    let mut text = String::new(alloc);
+    let mut rest = octets;
+    'characters: while let [first, second, third, fourth, after @ ..] = rest {
+        let high = u32::from(*first) * 256 + u32::from(*second);
+        let number = (high * 256 + u32::from(*third)) * 256 + u32::from(*fourth);
+        let Some(character) = char::from_u32(number) else {
+            return Err(X509Error::InvalidAttributes);
+        };
+        text.push(character)?;
+        rest = after;
+    }
+    if !rest.is_empty() {
+        return Err(X509Error::InvalidAttributes);
+    }
+    Ok(text)
+}

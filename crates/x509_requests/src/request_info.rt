@@ -1,0 +1,104 @@
+//! What a certification request says.
+
+ghost use Rattle.std.specs.Prelude.{◌≡◌, ◌+◌, ◌-◌, length, true};
+ghost use Rattle.x509_der.specs.Primitives.{is_constructed};
+ghost use Rattle.x509_der.specs.Reading.{strict};
+ghost use Rattle.x509_requests.specs.AttributeIter.{attributes_left};
+ghost use Rattle.x509_requests.specs.RequestInfo.{RequestInfo, info_of, info_heads, request_info, request_info_laws};
+
+use crate::cri_attribute::X509CriAttribute;
+use crate::cri_attribute_iter::CriAttributeIter;
+use crate::request_attributes::read_attributes;
+use std::alloc::Global;
+use x509_der::{Elements, Err, FromDer, Place, Sequence, Tries, field_at};
+use x509_fields::{X509Error, X509Name, X509Version, sequence_at};
+use x509_keys::SubjectPublicKeyInfo;
+
+/// The part of a certification request that is signed (RFC 2986, section 4.1).
+///
+/// ```text
+/// CertificationRequestInfo  ::=  SEQUENCE  {
+///     version        INTEGER { v1(0) },
+///     subject        Name,
+///     subjectPKInfo  SubjectPublicKeyInfo,
+///     attributes     [0]  Attributes  }
+/// ```
+///
+/// Attributes fill all that stands behind the header of the wrapper, whatever length it says.
+#[derive(Debug, Drop, PartialEq)]
+pub struct X509CertificationRequestInfo<'a> {
+    /// The version: any number of at most 32 bits.
+    pub version: X509Version,
+    /// Whom the certificate is to be about.
+    pub subject: X509Name<'a>,
+    /// The key of the subject, and its algorithm.
+    pub subject_pki: SubjectPublicKeyInfo<'a>,
+    pub(crate) attributes: Sequence<X509CriAttribute<'a>>,
+    /// The bytes that are signed: the whole element, with its header.
+    pub raw: &'a [u8],
+}
+
+impl<'a> X509CertificationRequestInfo<'a> {
+    /// The attributes, in order; two may have one identifier.
+    pub fn attributes(&self) -> &[X509CriAttribute<'a>]
+        ensures { result.now ≡ self.now.attributes }
+    {
+        self.attributes.as_slice()
+    }
+
+    /// Iterates over the attributes, in order.
+    pub fn iter_attributes(&self) -> CriAttributeIter<'_, 'a>
+        ensures { attributes_left result ≡ self.now.attributes }
+    {
+        CriAttributeIter::new(self.attributes())
+    }
+}
+
+impl<'a> FromDer<'a, X509Error> for X509CertificationRequestInfo<'a> {
+    ghost Value = { RequestInfo };
+
+    ghost view = { info_of };
+
+    ghost plan = { request_info };
+
+    ghost laws = { request_info_laws.laws.lawful };
+
+    ghost marked = { request_info_laws.marked };
+
+    ghost form = { strict };
+
+    ghost own_tag = { is_constructed 16 };
+
+    ghost heads = { info_heads };
+
+    ghost takes_memory = { true };
+
+    #[tactic(auto, unfolding(crate::specs::RequestInfo::request_info), using(x509_der::proofs::Marking::marks_of_readers))]
+    fn read_at(
+        alloc: Global,
+        tries: &mut Tries,
+        place: &Place<'a>,
+    ) -> Result<(Self, bool), Err<X509Error>> {
+        let contents = sequence_at(place)?;
+        let children: Elements<'_, 4> = Elements::cut(tries, contents);
+        let (k, version, version_plain) = field_at(alloc, tries, &children, 0)?;
+        let (k, subject, subject_plain) = field_at(alloc, tries, &children, k)?;
+        let (k, subject_pki, key_plain) = field_at(alloc, tries, &children, k)?;
+        let (attributes, attributes_plain) = match read_attributes(alloc, tries, &children.at(k)) {
+            Ok((attributes, plain)) => (attributes, plain),
+            Err(e) => return Err(e),
+        };
+        let bytes = place.bytes();
+        let info = X509CertificationRequestInfo {
+            version,
+            subject,
+            subject_pki,
+            attributes,
+            raw: &bytes[..bytes.len() - place.rest().len()],
+        };
+        let plain = version_plain & (subject_plain & (key_plain & attributes_plain));
+        Ok((info, plain))
+    }
+
+    ghost never_memory = { request_info_laws.laws.never_memory };
+}

@@ -1,0 +1,10 @@
+//! Certification requests and their attributes.
+
+mod attributes;
+mod fixtures;
+mod look_ups;
+mod memory_refused;
+mod passwords;
+mod real;
+mod requested;
+mod requests;

@@ -1,0 +1,102 @@
+//! The report of a list of revoked certificates.
+
+ghost use Rattle.std.specs.Prelude.{◌≡◌, ◌++◌, IfSome, OnOk, MatchOption, MatchResult, codes, flat_map, map, string_bytes};
+ghost use Rattle.x509_der.specs.Promises.{option_view};
+ghost use Rattle.x509_lists.specs.CertificateList.{list_of};
+ghost use Rattle.x509_lists.specs.RevokedCertificate.{revoked_of};
+ghost use Rattle.x509_show.specs.declared.stop.Stop.TheVariants.{Memory};
+ghost use Rattle.x509_show.specs.Lines.{line};
+ghost use Rattle.x509_show.specs.ListReport.{IsListReport, or_none, revoked_line, list_text};
+ghost use Rattle.x509_show.specs.Report.{IsOnly};
+
+use crate::lines::{push_extensions, push_line};
+use crate::report::{Report, refused};
+use crate::stop::Stop;
+use std::alloc::{AllocError, Global};
+use std::fmt;
+use x509_parser::parse_x509_crl;
+use x509_parser::revocation_list::{CertificateRevocationList, RevokedCertificate};
+
+/// Adds the line of a field that may be absent.
+fn push_optional<T: fmt::Display>(
+    text: &mut String,
+    label: &str,
+    value: &Option<T>,
+) -> Result<(), AllocError>
+    ensures { OnOk result (MatchOption value.now
+        (string_bytes text.new ≡ string_bytes text.old ++ line label.now (codes "none"))
+        (λ held. IfSome (T.output held) (λ shown. string_bytes text.new ≡ string_bytes text.old ++ line label.now shown))) }
+{
+    match value {
+        Some(value) => push_line(text, label, value),
+        None => push_line(text, label, &"none"),
+    }
+}
+
+/// Adds the line of a certificate that was revoked.
+fn push_revoked(
+    alloc: Global,
+    text: &mut String,
+    revoked: &RevokedCertificate<'_>,
+) -> Result<(), Stop>
+    ensures { MatchResult result (λ _. string_bytes text.new ≡ string_bytes text.old ++ revoked_line (revoked_of revoked.now)) (λ stop. stop ≡ Memory) }
+{
+    let Ok(serial) = revoked.raw_serial_as_string(alloc) else {
+        return Err(Stop::Memory);
+    };
+    let date = &revoked.revocation_date;
+    push_line(text, "revoked", &format_args!("{serial} {date}"))?;
+    Ok(())
+}
+
+/// Adds the line of each certificate that was revoked.
+fn push_all_revoked(
+    alloc: Global,
+    text: &mut String,
+    revoked: &[RevokedCertificate<'_>],
+) -> Result<(), Stop>
+    ensures { MatchResult result (λ _. string_bytes text.new ≡ string_bytes text.old ++ flat_map revoked_line (map revoked_of revoked.now)) (λ stop. stop ≡ Memory) }
+{
+    for one in revoked {
+        push_revoked(alloc, text, one)?;
+    }
+    Ok(())
+}
+
+/// The lines of a list, and of the bytes behind it.
+#[tactic(auto, unfolding(crate::specs::ListReport::list_text))]
+fn list_text(
+    alloc: Global,
+    list: &CertificateRevocationList<'_>,
+    rest: &[u8],
+) -> Result<String, Stop>
+    ensures { MatchResult result (λ s. string_bytes s ≡ list_text (list_of list.now) rest.now) (λ stop. stop ≡ Memory) }
+{
+    let tbs = &list.tbs_cert_list;
+    let mut text = String::new(alloc);
+    push_optional(&mut text, "version", &tbs.version)?;
+    push_line(&mut text, "signature", &list.signature_algorithm.algorithm)?;
+    push_line(&mut text, "issuer", &tbs.issuer)?;
+    push_line(&mut text, "this update", &tbs.this_update)?;
+    push_optional(&mut text, "next update", &tbs.next_update)?;
+    push_all_revoked(alloc, &mut text, tbs.revoked_certificates.as_slice())?;
+    push_extensions(&mut text, tbs.extensions())?;
+    push_line(&mut text, "tbs", &tbs.as_ref().len())?;
+    push_line(&mut text, "rest", &rest.len())?;
+    Ok(text)
+}
+
+/// The report of the list of revoked certificates at the front of the input (RFC 5280, section 5.1): its lines with status 0, or
+/// why there is none with status 1. The only error is [`Stop::Memory`].
+pub fn list_report(alloc: Global, input: &[u8]) -> Result<Report, Stop>
+    ensures { MatchResult result (λ r. IsOnly (IsListReport input.now) r) (λ stop. stop ≡ Memory) }
+{
+    match parse_x509_crl(alloc, input) {
+        Ok((rest, list)) => {
+            let text = list_text(alloc, &list, rest)?;
+            Ok(Report::accepted(text))
+        }
+        Err(refusal) if refusal.is_out_of_memory() => Err(Stop::Memory),
+        Err(refusal) => Ok(refused(alloc, &refusal)?),
+    }
+}

@@ -1,0 +1,58 @@
+//! Certification requests, shown.
+
+use super::memory::{MemorySink, MemorySource};
+use crate::parts::{Sink, Source};
+use crate::runs::run;
+use std::test::Fail;
+
+const NO_ATTRIBUTES: &str = "version: V1\nsubject: \nkey: 1.2\nsignature: 1.2\ntbs: 19\nrest: 0\n";
+
+const PASSWORD: &str = "version: V1\nsubject: \nkey: 1.2\nsignature: 1.2\n\
+    attribute: 1.2.840.113549.1.9.7 5\ntbs: 37\nrest: 0\n";
+
+#[test]
+fn requests(rt: HostRuntime) -> Result<(), Fail> {
+    let rows: [(&[u8], u8, &str); 6] = [
+        (
+            b"\x30\x1B\x30\x11\x02\x01\x00\x30\x00\x30\x08\x30\x03\x06\x01\x2A\x03\x01\x00\xA0\x00\x30\x03\x06\x01\x2A\x03\x01\x00",
+            0,
+            NO_ATTRIBUTES,
+        ),
+        (
+            b"\x30\x2D\x30\x23\x02\x01\x00\x30\x00\x30\x08\x30\x03\x06\x01\x2A\x03\x01\x00\
+            \xA0\x12\x30\x10\x06\x09\x2A\x86\x48\x86\xF7\x0D\x01\x09\x07\x31\x03\x0C\x01a\x30\x03\x06\x01\x2A\x03\x01\x00",
+            0,
+            PASSWORD,
+        ),
+        // the wrapper's length isn't looked at
+        (
+            b"\x30\x2D\x30\x23\x02\x01\x00\x30\x00\x30\x08\x30\x03\x06\x01\x2A\x03\x01\x00\
+            \xA0\x00\x30\x10\x06\x09\x2A\x86\x48\x86\xF7\x0D\x01\x09\x07\x31\x03\x0C\x01a\x30\x03\x06\x01\x2A\x03\x01\x00",
+            0,
+            PASSWORD,
+        ),
+        // no attributes' wrapper
+        (
+            b"\x30\x19\x30\x0F\x02\x01\x00\x30\x00\x30\x08\x30\x03\x06\x01\x2A\x03\x01\x00\x30\x03\x06\x01\x2A\x03\x01\x00",
+            1,
+            "refused: invalid attributes\n",
+        ),
+        // the request of none, cut short
+        (
+            b"\x30\x1B\x30\x11\x02\x01\x00\x30\x00\x30\x08\x30\x03\x06\x01\x2A\x03\x01\x00\xA0\x00\x30\x03\x06\x01\x2A\x03\x01",
+            1,
+            "refused: incomplete\n",
+        ),
+        (b"", 1, "refused: incomplete\n"),
+    ];
+    for (input, status, text) in rows {
+        let mut from = MemorySource::new(input, 1000, 50);
+        let mut to = MemorySink::new(Vec::new(rt.alloc()), 1000, 1000, 100);
+        let answered = run(rt.alloc(), "csr", &mut from, &mut to);
+        assert_eq!(rt; to.bytes(), text.as_bytes());
+        assert_eq!(rt; answered, status);
+        assert!(rt; from.rest().is_empty());
+        assert!(rt; !from.failed() && !to.failed());
+    }
+    Ok(())
+}
