@@ -2,10 +2,12 @@
 
 ghost use Rattle.std.specs.Prelude.{false};
 ghost use Rattle.x509_der.specs.Primitives.{is_constructed};
-ghost use Rattle.x509_der.specs.Reading.{strict};
+ghost use Rattle.x509_der.specs.Reading.{Gives, strict};
 ghost use Rattle.x509_keys.specs.KeyInfo.{KeyInfo, key_info_of, key_info, key_info_heads};
 ghost use Rattle.x509_keys.specs.Laws.{key_info_laws};
+ghost use Rattle.x509_keys.specs.PublicKey.{ParsesKeyIn, key_in, public_key_of};
 
+use crate::public_key::{PublicKey, parse_key};
 use std::alloc::Global;
 use x509_der::{BitString, Err, FromDer, Place, Tries, Two};
 use x509_fields::{AlgorithmIdentifier, X509Error, sequence_at};
@@ -24,6 +26,25 @@ pub struct SubjectPublicKeyInfo<'a> {
     /// The bytes from the header to the end of the key. With bytes behind the key in the SEQUENCE, which are skipped, they
     /// are no whole element.
     pub raw: &'a [u8],
+}
+
+impl<'a> SubjectPublicKeyInfo<'a> {
+    /// The key that the key bits hold, by the algorithm's identifier: an RSA key, the INTEGER of a DSA key or the OCTET STRING
+    /// of a GOST key that stands first in them, or all of them, as a point for id-ecPublicKey and as they stand for every other
+    /// algorithm. Bytes behind the key are skipped, and the count of unused bits isn't looked at. Takes no memory.
+    ///
+    /// # Errors
+    ///
+    /// `InvalidSPKI` where the key bits hold no such key.
+    pub fn parsed(&self) -> Result<PublicKey<'a>, X509Error>
+        ensures reads { Gives public_key_of result (key_in (key_info_of self.now)) }
+        ensures exact { ParsesKeyIn (key_info_of self.now) result }
+    {
+        parse_key(
+            self.algorithm.algorithm.as_bytes(),
+            self.subject_public_key.bytes,
+        )
+    }
 }
 
 /// A key that cannot be read is `InvalidSPKI`; the SEQUENCE and the algorithm have their own refusals.

@@ -1,0 +1,63 @@
+//! The signatures of ECDSA.
+
+ghost use Rattle.std.specs.Prelude.{false};
+ghost use Rattle.x509_der.specs.Primitives.{is_constructed};
+ghost use Rattle.x509_der.specs.Reading.{strict};
+ghost use Rattle.x509_keys.specs.EcdsaSigValue.{EcdsaValue, ecdsa_value_of, ecdsa_sig_value, ecdsa_value_heads, ecdsa_sig_value_laws};
+
+use std::alloc::Global;
+use x509_der::{BerError, Err, FromDer, Integer, Place, Tries, Two};
+
+/// The value of an ECDSA signature (RFC 3279, section 2.2.3).
+///
+/// ```text
+/// Ecdsa-Sig-Value ::= SEQUENCE {
+///     r  INTEGER,
+///     s  INTEGER }
+/// ```
+///
+/// Bytes behind the second number are skipped. A refusal is that of the first element that cannot be read: `Incomplete` where it
+/// is cut short, `InvalidTag`, or `InvalidLength`.
+#[derive(Debug, Drop, PartialEq, Eq)]
+pub struct EcdsaSigValue<'a> {
+    pub r: Integer<'a>,
+    pub s: Integer<'a>,
+}
+
+impl<'a> FromDer<'a, BerError> for EcdsaSigValue<'a> {
+    ghost Value = { EcdsaValue };
+
+    ghost view = { ecdsa_value_of };
+
+    ghost plan = { ecdsa_sig_value };
+
+    ghost laws = { ecdsa_sig_value_laws.laws.lawful };
+
+    ghost marked = { ecdsa_sig_value_laws.marked };
+
+    ghost form = { strict };
+
+    ghost own_tag = { is_constructed 16 };
+
+    ghost heads = { ecdsa_value_heads };
+
+    ghost takes_memory = { false };
+
+    #[tactic(auto, unfolding(crate::specs::EcdsaSigValue::ecdsa_sig_value), using(x509_der::proofs::Marking::marks_of_readers))]
+    fn read_at(
+        _alloc: Global,
+        tries: &mut Tries,
+        place: &Place<'a>,
+    ) -> Result<(Self, bool), Err<BerError>> {
+        let contents = place.sequence()?;
+        let Two { first, second } = Two::cut(tries, contents);
+        let r = first.integer()?;
+        let s = second.integer()?;
+        Ok((EcdsaSigValue { r, s }, second.rest().is_empty()))
+    }
+
+    ghost never_memory = { ecdsa_sig_value_laws.laws.never_memory };
+}
+
+#[cfg(test)]
+mod tests;

@@ -1,0 +1,3 @@
+//! The values of signatures.
+
+pub use x509_keys::EcdsaSigValue;
