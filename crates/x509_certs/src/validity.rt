@@ -1,14 +1,17 @@
 //! When a certificate is valid.
 
-ghost use Rattle.std.specs.Prelude.{IsTrue, ◌↔◌, ◌≤ℤ◌, false};
+ghost use Rattle.std.specs.Prelude.{IsTrue, ◌↔◌, ℤ, false, option_map};
+ghost use Rattle.jiff.specs.Words.{signed_nanos};
 ghost use Rattle.x509_der.specs.Primitives.{is_constructed};
 ghost use Rattle.x509_der.specs.Reading.{strict};
 ghost use Rattle.x509_fields.specs.Times.{instant_of};
+ghost use Rattle.x509_certs.specs.Expiration.{IsValidAt, IsLeftAt, IsValidAtSecond, IsTimeLeft};
 ghost use Rattle.x509_certs.specs.Validity.{Period, period_of, period_heads, validity, validity_laws};
 
+use jiff::SignedDuration;
 use std::alloc::Global;
 use x509_der::{Err, FromDer, Place, Tries, Two};
-use x509_fields::{ASN1Time, X509Error, sequence_at};
+use x509_fields::{ASN1Time, Clock, X509Error, sequence_at};
 
 /// The first and the last moment at which a certificate is valid (RFC 5280, section 4.1.2.5).
 ///
@@ -29,10 +32,44 @@ impl Validity {
     /// Whether the time lies between both moments or is one of them. Instants decide: the forms of the times, UTCTime or
     /// GeneralizedTime, do not.
     pub fn is_valid_at(&self, time: ASN1Time) -> bool
-        ensures { IsTrue result ↔ ((instant_of self.now.not_before ≤ℤ instant_of time) × (instant_of time ≤ℤ instant_of self.now.not_after)) }
+        ensures { IsTrue result ↔ IsValidAt self.now (instant_of time) }
     {
         let instant = time.instant_nanos();
         self.not_before.instant_nanos() <= instant && instant <= self.not_after.instant_nanos()
+    }
+
+    /// Whether the time that the clock says, which is read once, lies between both moments or is one of them; false where it says
+    /// a second outside the years -9999 to 9999.
+    pub fn is_valid<C: Clock>(&self, clock: &mut C) -> bool
+        ensures { (seconds : ℤ) × C.says clock.old seconds clock.new × (IsTrue result ↔ IsValidAtSecond self.now seconds) }
+    {
+        match ASN1Time::now(clock) {
+            Ok(now) => self.is_valid_at(now),
+            Err(_) => false,
+        }
+    }
+
+    /// How long the certificate will be valid from the time on that the clock says, which is read once. None where it isn't valid
+    /// then, and at its last valid moment.
+    pub fn time_to_expiration<C: Clock>(&self, clock: &mut C) -> Option<SignedDuration>
+        ensures { (seconds : ℤ) × C.says clock.old seconds clock.new × IsTimeLeft self.now seconds (option_map signed_nanos result) }
+    {
+        match ASN1Time::now(clock) {
+            Ok(now) => self.time_left(&now),
+            Err(_) => None,
+        }
+    }
+
+    /// How long the certificate will be valid from that time on; None where it isn't valid then, and at its last valid moment.
+    fn time_left(&self, now: &ASN1Time) -> Option<SignedDuration>
+        ensures { IsLeftAt self.now (instant_of now.now) (option_map signed_nanos result) }
+    {
+        if !self.is_valid_at(*now) {
+            return None;
+        }
+        let last = self.not_after;
+        let now = *now;
+        last - now
     }
 }
 

@@ -1,3 +1,4 @@
 pub mod Numbers
 pub mod UnknownKey
 pub mod ParsedKey
+pub mod ParametersRead

@@ -81,7 +81,7 @@ fn read_key<'a>(kind: KeyKind, bits: &'a [u8]) -> Result<PublicKey<'a>, X509Erro
 
 /// The place where the bytes begin.
 #[inline(always)]
-fn first_place(bytes: &[u8]) -> Place<'_>
+pub(crate) fn first_place(bytes: &[u8]) -> Place<'_>
     ensures { at result ≡ bytes.now }
 {
     Place::look(&mut Tries::new(), bytes)

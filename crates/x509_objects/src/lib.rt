@@ -2,6 +2,7 @@
 #![tactic(auto)]
 
 mod objects;
+mod registry;
 
 pub use objects::{
     OID_CT_LIST_SCT, OID_DOMAIN_COMPONENT, OID_GOST_R3410_2001, OID_HASH_SHA1, OID_KEY_TYPE_DSA,
@@ -19,5 +20,6 @@ pub use objects::{
     OID_X509_EXT_POLICY_CONSTRAINTS, OID_X509_EXT_POLICY_MAPPINGS, OID_X509_EXT_REASON_CODE,
     OID_X509_EXT_SUBJECT_ALT_NAME, OID_X509_EXT_SUBJECT_KEY_IDENTIFIER, OID_X509_LOCALITY_NAME,
     OID_X509_ORGANIZATION_NAME, OID_X509_ORGANIZATIONAL_UNIT, OID_X509_STATE_OR_PROVINCE_NAME,
-    abbreviation,
+    abbreviation, registered_name,
 };
+pub use registry::{OidEntry, OidRegistry, oid_registry};

@@ -2,7 +2,7 @@
 
 ghost use Rattle.std.specs.Prelude.{◌≡◌, map};
 ghost use Rattle.std.specs.Option.{option_copied};
-ghost use Rattle.x509_objects.specs.Objects.{name_in, registered_name};
+ghost use Rattle.x509_objects.specs.Objects.{name_in, abbreviation, short_name, described, registered_name};
 
 #[cfg(test)]
 mod tests;
@@ -161,10 +161,13 @@ pub const OID_X509_EXT_CERT_COMMENT: &[u8] = &[
     0x60, 0x86, 0x48, 0x01, 0x86, 0xf8, 0x42, 0x01, 0x0d,
 ];
 
-/// What is shown for an identifier: its abbreviation, else its short name.
-type Row = (&'static [u8], &'static str);
+/// id-mgf1, 1.2.840.113549.1.1.8 (RFC 8017, B.2.1): the contents of the identifier.
+const MASK_GENERATOR: &[u8] = &[0x2a, 0x86, 0x48, 0x86, 0xf7, 0x0d, 0x01, 0x01, 0x08];
 
-const REGISTRY: [Row; 49] = [
+/// The contents of an identifier, and one of its names.
+pub(crate) type Row = (&'static [u8], &'static str);
+
+const ABBREVIATIONS: [Row; 8] = [
     (OID_X509_COMMON_NAME, "CN"),
     (OID_X509_COUNTRY_NAME, "C"),
     (OID_X509_LOCALITY_NAME, "L"),
@@ -173,6 +176,17 @@ const REGISTRY: [Row; 49] = [
     (OID_X509_ORGANIZATIONAL_UNIT, "OU"),
     (OID_DOMAIN_COMPONENT, "DC"),
     (OID_PKCS9_EMAIL_ADDRESS, "Email"),
+];
+
+pub(crate) const SHORT_NAMES: [Row; 49] = [
+    (OID_X509_COMMON_NAME, "commonName"),
+    (OID_X509_COUNTRY_NAME, "countryName"),
+    (OID_X509_LOCALITY_NAME, "localityName"),
+    (OID_X509_STATE_OR_PROVINCE_NAME, "stateOrProvinceName"),
+    (OID_X509_ORGANIZATION_NAME, "organizationName"),
+    (OID_X509_ORGANIZATIONAL_UNIT, "organizationalUnit"),
+    (OID_DOMAIN_COMPONENT, "domainComponent"),
+    (OID_PKCS9_EMAIL_ADDRESS, "emailAddress"),
     (OID_PKCS9_CHALLENGE_PASSWORD, "challengePassword"),
     (OID_PKCS9_EXTENSION_REQUEST, "extensionRequest"),
     (OID_PKCS1_RSAENCRYPTION, "rsaEncryption"),
@@ -181,10 +195,7 @@ const REGISTRY: [Row; 49] = [
         &[0x2a, 0x86, 0x48, 0x86, 0xf7, 0x0d, 0x01, 0x01, 0x07],
         "id-RSAES-OAEP",
     ),
-    (
-        &[0x2a, 0x86, 0x48, 0x86, 0xf7, 0x0d, 0x01, 0x01, 0x08],
-        "id-mgf1",
-    ),
+    (MASK_GENERATOR, "id-mgf1"),
     (
         &[0x2a, 0x86, 0x48, 0x86, 0xf7, 0x0d, 0x01, 0x01, 0x09],
         "id-pSpecified",
@@ -234,12 +245,41 @@ const REGISTRY: [Row; 49] = [
     (OID_X509_EXT_CERT_COMMENT, "nsComment"),
 ];
 
-/// The abbreviation of an identifier with these contents, else its short name.
-#[tactic(auto, unfolding(crate::specs::Objects::registered_name))]
+/// The abbreviation of an identifier with these contents, as `CN`. Few have one.
+#[tactic(auto, unfolding(crate::specs::Objects::abbreviation))]
 pub fn abbreviation(octets: &[u8]) -> Option<&'static str>
+    ensures { option_copied result ≡ abbreviation octets.now }
+{
+    find_name(&ABBREVIATIONS, octets)
+}
+
+/// The short name of an identifier with these contents, as `commonName`.
+#[tactic(auto, unfolding(crate::specs::Objects::short_name))]
+fn short_name(octets: &[u8]) -> Option<&'static str>
+    ensures { option_copied result ≡ short_name octets.now }
+{
+    find_name(&SHORT_NAMES, octets)
+}
+
+/// The description of an identifier with these contents and this short name.
+pub(crate) fn described(octets: &[u8], name: &'static str) -> &'static str
+    ensures { result.now ≡ described octets.now name.now }
+{
+    if octets == MASK_GENERATOR {
+        "Mask Generator Function 1 (MGF1)"
+    } else {
+        name
+    }
+}
+
+/// The abbreviation of an identifier with these contents, else its short name.
+pub fn registered_name(octets: &[u8]) -> Option<&'static str>
     ensures { option_copied result ≡ registered_name octets.now }
 {
-    find_name(&REGISTRY, octets)
+    match abbreviation(octets) {
+        Some(name) => Some(name),
+        None => short_name(octets),
+    }
 }
 
 fn find_name(rows: &[(&'static [u8], &'static str)], octets: &[u8]) -> Option<&'static str>

@@ -1,17 +1,24 @@
 -- Instants: their whole seconds, that of the epoch, and what they rest on.
-use Rattle.std.proofs.Common.{◌≡◌, refl, ◌∙◌, ap, rules, ℤ, pos, ◌-ℤ◌, ◌*ℤ◌, arith}
+use Rattle.std.proofs.Common.{◌≡◌, refl, ◌∙◌, ap, rules, ℤ, pos, ◌-ℤ◌, ◌*ℤ◌, neg_ℤ, arith}
 use Rattle.jiff.proofs.SpanFacts.{signed_arith}
-use Rattle.jiff.proofs.Family.{civil_nanos-parts, civil_nanos-civil_seconds, epoch_day_same}
+use Rattle.jiff.proofs.Family.{civil_nanos-parts, civil_nanos-civil_seconds, civil_nanos_range, epoch_day_same}
 use Rattle.jiff.proofs.OnLiterals.{jiff_on_literals}
 use Rattle.jiff.specs.Types.{Date, DateTime}
-use Rattle.jiff.specs.Words.{civil_nanos, civil_seconds, epoch_day, time_nanos, IsYmd, IsHms}
-use Rattle.x509_times.specs.Moments.{instant, floor_seconds}
+use Rattle.jiff.specs.Words.{civil_nanos, civil_seconds, epoch_day, time_nanos, IsYmd, IsHms, IsBetween}
+use Rattle.x509_times.specs.Moments.{IsOffset, instant, floor_seconds}
 
 pub floor-instant : (civil : DateTime) (offset : ℤ) → floor_seconds (instant civil offset) ≡ (civil_seconds civil -ℤ (offset *ℤ pos 60))
 floor-instant civil offset =
     let below = civil.time.subsec_in in
     let parts = civil_nanos-civil_seconds civil in
     omega (arith, signed_arith)
+
+-- less than twice the years that a date has
+pub instant_range : (civil : DateTime) (offset : ℤ) → IsOffset offset → IsBetween (neg_ℤ (pos 400_000_000_000_000_000_000)) (pos 400_000_000_000_000_000_000) (instant civil offset)
+instant_range civil offset in_day =
+    let low = (civil_nanos_range civil).0 in
+    let high = (civil_nanos_range civil).1 in
+    (omega (arith, signed_arith), omega (arith, signed_arith))
 
 epoch : Date
 epoch = record { year = pos 1970; month = 1; day = 1; year_in = search rules; month_in = search rules; day_in = search rules }

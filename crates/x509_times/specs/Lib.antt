@@ -3,3 +3,4 @@ pub mod Spelling
 pub mod Octets
 pub mod TimeText
 pub mod OffsetDateTimes
+pub mod Rfc2822

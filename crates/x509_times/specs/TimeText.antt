@@ -29,3 +29,19 @@ abbrev pub time_text : Moment → List ℕ
 time_text m =
     month_name m.month ++ codes " " ++ in_two_places m.day ++ codes " " ++ clock_text m.hour m.minute m.second ++ codes " "
     ++ signed_decimal m.year ++ codes " " ++ offset_text m.offset
+
+-- ---- as internet messages write it (RFC 2822, section 3.3)
+
+-- day-name, by how many days after a Monday
+unfoldable pub day_name : ℕ → List ℕ
+day_name n =
+    if n == 0 then codes "Mon" else (if n == 1 then codes "Tue" else (if n == 2 then codes "Wed" else (if n == 3 then codes "Thu"
+    else (if n == 4 then codes "Fri" else (if n == 5 then codes "Sat" else codes "Sun")))))
+
+-- year: four digits
+unfoldable pub year_text : ℕ → List ℕ
+year_text year = two_digits (year / 100) ++ two_digits (year % 100)
+
+-- zone: a sign and hhmm
+unfoldable pub zone_text : ℤ → List ℕ
+zone_text minutes = (if is_negative minutes then codes "-" else codes "+") ++ two_digits (unsigned_abs minutes / 60) ++ two_digits (unsigned_abs minutes % 60)

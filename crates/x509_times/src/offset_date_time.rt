@@ -1,8 +1,10 @@
 //! Civil date-times with an offset from UTC.
 
-ghost use Rattle.std.specs.Prelude.{◌≡◌, ◌↔◌, pos, IsSome, IfSome};
-ghost use Rattle.x509_times.specs.Moments.{IsOffset, instant, floor_seconds};
+ghost use Rattle.std.specs.Prelude.{◌≡◌, ◌↔◌, pos, ◌+ℤ◌, ◌-ℤ◌, IsSome, IfSome};
+ghost use Rattle.jiff.specs.Words.{civil_nanos, signed_nanos};
+ghost use Rattle.x509_times.specs.Moments.{IsOffset, IsCivil, instant, floor_seconds};
 
+use jiff::SignedDuration;
 use jiff::civil::DateTime;
 
 const NANOS_PER_MINUTE: i128 = 60_000_000_000;
@@ -78,5 +80,26 @@ impl OffsetDateTime {
     {
         let civil = self.civil.to_plain();
         civil.to_second() - i64::from(self.offset_minutes) * 60
+    }
+    /// The date-time of the same offset that is so much later, or earlier for a duration below zero; None where its civil
+    /// year would leave -9999 to 9999.
+    pub fn checked_add(&self, duration: SignedDuration) -> Option<OffsetDateTime>
+        ensures some { IsSome result ↔ IsCivil (civil_nanos (civil_of self.now) +ℤ signed_nanos duration) }
+        ensures instant { IfSome result (λ t. instant (civil_of t) (offset_of t)
+            ≡ instant (civil_of self.now) (offset_of self.now) +ℤ signed_nanos duration) }
+        ensures offset { IfSome result (λ t. offset_of t ≡ offset_of self.now) }
+    {
+        let civil = self.civil.to_plain();
+        match civil.checked_add_nanos(duration.as_nanos()) {
+            Ok(sum) => Some(OffsetDateTime::at(DateTime::from_plain(sum), self.offset_minutes)),
+            Err(_) => None,
+        }
+    }
+
+    /// By how much its instant is later than the other's; below zero where it is earlier.
+    pub fn duration_since(&self, other: &OffsetDateTime) -> SignedDuration
+        ensures { signed_nanos result ≡ instant (civil_of self.now) (offset_of self.now) -ℤ instant (civil_of other.now) (offset_of other.now) }
+    {
+        SignedDuration::from_nanos_i128(self.instant_nanos() - other.instant_nanos())
     }
 }

@@ -1,4 +1,5 @@
-use crate::{OffsetDateTime, generalized_time, utc_time};
+use crate::{OffsetDateTime, Rfc2822, generalized_time, utc_time};
+use jiff::SignedDuration;
 use jiff::civil::date;
 use std::test::Fail;
 
@@ -45,5 +46,44 @@ fn offsets(rt: HostRuntime) -> Result<(), Fail> {
     assert_eq!(rt; moment.timestamp(), -5401);
     assert!(rt; OffsetDateTime::new(civil, 1439).is_some());
     assert!(rt; OffsetDateTime::new(civil, 1440).is_none());
+    Ok(())
+}
+
+#[test]
+fn as_messages_write_them(rt: HostRuntime) -> Result<(), Fail> {
+    let texts: [(&[u8], &str); 4] = [
+        (b"19700101000000Z", "Thu, 1 Jan 1970 00:00:00 +0000"),
+        (b"20030701105237+0200", "Tue, 1 Jul 2003 10:52:37 +0200"),
+        (b"19000101000000-0130", "Mon, 1 Jan 1900 00:00:00 -0130"),
+        (b"99991231235959Z", "Fri, 31 Dec 9999 23:59:59 +0000"),
+    ];
+    for (octets, text) in texts {
+        let time = generalized_time(octets).ok_or("no time")?;
+        let message = Rfc2822::new(time).ok_or("no text")?;
+        let shown = format!(in rt.alloc(); "{message}")?;
+        assert_eq!(rt; shown.as_str(), text);
+    }
+    Ok(())
+}
+
+#[test]
+fn before_messages(rt: HostRuntime) -> Result<(), Fail> {
+    let early: [&[u8]; 2] = [b"18991231235959-2359", b"00010101123456Z"];
+    for octets in early {
+        let time = generalized_time(octets).ok_or("no time")?;
+        assert!(rt; Rfc2822::new(time).is_none());
+    }
+    Ok(())
+}
+
+#[test]
+fn sums(rt: HostRuntime) -> Result<(), Fail> {
+    let last = generalized_time(b"99991231235959-0130").ok_or("no time")?;
+    let more = SignedDuration::from_millis(999);
+    let sum = last.checked_add(more).ok_or("no sum")?;
+    assert_eq!(rt; sum.offset_minutes(), -90);
+    assert!(rt; sum.duration_since(&last) == more);
+    assert!(rt; last.duration_since(&sum) == SignedDuration::from_millis(-999));
+    assert!(rt; last.checked_add(SignedDuration::from_secs(1)).is_none());
     Ok(())
 }

@@ -9,6 +9,10 @@ ghost use Rattle.x509_times.specs.OffsetDateTimes.{moment_of};
 use crate::offset_date_time::OffsetDateTime;
 use std::fmt;
 
+mod rfc2822;
+
+pub use rfc2822::Rfc2822;
+
 // A number below 100 in two digits.
 #[derive(Clone, Copy)]
 struct TwoDigits {

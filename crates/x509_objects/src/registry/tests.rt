@@ -1,0 +1,73 @@
+use super::*;
+use crate::OID_X509_COMMON_NAME;
+use std::test::Fail;
+
+/// The entry of the identifier with these contents, as its two texts.
+fn texts<'r, 'a>(registry: &'r OidRegistry<'a>, octets: &'a [u8]) -> Option<(&'r str, &'r str)> {
+    let entry = registry.get(&Oid::new(octets))?;
+    Some((entry.sn(), entry.description()))
+}
+
+#[test]
+fn known_identifiers(rt: HostRuntime) -> Result<(), Fail> {
+    let registry = oid_registry(rt.alloc())?;
+    let common_name = texts(&registry, OID_X509_COMMON_NAME);
+    assert_eq!(rt; common_name, Some(("commonName", "commonName")));
+    let mgf1 = texts(&registry, b"\x2a\x86\x48\x86\xf7\x0d\x01\x01\x08");
+    let wanted = Some(("id-mgf1", "Mask Generator Function 1 (MGF1)"));
+    assert_eq!(rt; mgf1, wanted);
+    assert_eq!(rt; texts(&registry, b"\x2a\x03"), None);
+    Ok(())
+}
+
+#[test]
+fn every_row_is_an_entry(rt: HostRuntime) -> Result<(), Fail> {
+    let registry = oid_registry(rt.alloc())?;
+    for (octets, name) in SHORT_NAMES {
+        let found = texts(&registry, octets);
+        assert_eq!(rt; found, Some((name, described(octets, name))));
+    }
+    Ok(())
+}
+
+#[test]
+fn entries_put_in(rt: HostRuntime) -> Result<(), Fail> {
+    let mut registry = OidRegistry::new(rt.alloc());
+    let first = OidEntry::new("one", "the first");
+    let second = OidEntry::new("two", "the second");
+    assert_eq!(rt; registry.insert(Oid::new(b"\x2a\x03"), first)?, None);
+    assert_eq!(rt;
+        registry.insert(Oid::new(b"\x2a\x03"), second)?,
+        Some(first)
+    );
+    assert_eq!(rt; texts(&registry, b"\x2a\x03"), Some(("two", "the second")));
+    assert_eq!(rt; texts(&registry, b"\x2a"), None);
+    Ok(())
+}
+
+/// Whether the registry has an entry for the identifier with these contents.
+fn has(registry: &OidRegistry<'static>, octets: &[u8]) -> bool {
+    registry.get(&Oid::new(octets)).is_some()
+}
+
+#[test]
+fn octets_that_live_shorter(rt: HostRuntime) -> Result<(), Fail> {
+    let registry = oid_registry(rt.alloc())?;
+    let octets = vec![in rt.alloc(); 0x55u8, 0x04, 0x03]?;
+    assert!(rt; has(&registry, octets.as_slice()));
+    Ok(())
+}
+
+#[test]
+fn memory_refused(rt: HostRuntime) {
+    let oid = Oid::new(b"\x2a\x03");
+    let mut registry = OidRegistry::new(rt.alloc());
+    match registry.insert(oid, OidEntry::new("one", "the first")) {
+        Ok(old) => assert_eq!(rt; old, None),
+        Err(AllocError) => assert_eq!(rt; texts(&registry, b"\x2a\x03"), None),
+    }
+    match oid_registry(rt.alloc()) {
+        Ok(known) => assert!(rt; has(&known, OID_X509_COMMON_NAME)),
+        Err(AllocError) => {}
+    }
+}
