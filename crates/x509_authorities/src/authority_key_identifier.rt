@@ -9,7 +9,7 @@ use crate::implicit_names::soft_names_at;
 use crate::key_identifier::KeyIdentifier;
 use std::alloc::Global;
 use x509_der::{Elements, Err, FromDer, Place, Sequence, Tries};
-use x509_fields::{X509Error, sequence_at};
+use x509_fields::{TryClone, X509Error, sequence_at};
 use x509_general_names::GeneralName;
 
 #[cfg(test)]
@@ -83,4 +83,15 @@ impl<'a> FromDer<'a, X509Error> for AuthorityKeyIdentifier<'a> {
     }
 
     ghost never_memory = { authority_key_identifier_laws.laws.never_memory };
+}
+
+impl TryClone for AuthorityKeyIdentifier<'_> {
+    fn try_clone(&self) -> Result<Self, X509Error> {
+        let authority_cert_issuer = self.authority_cert_issuer.try_clone()?;
+        Ok(AuthorityKeyIdentifier {
+            key_identifier: self.key_identifier,
+            authority_cert_issuer,
+            authority_cert_serial: self.authority_cert_serial,
+        })
+    }
 }

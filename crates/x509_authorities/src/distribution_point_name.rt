@@ -11,7 +11,7 @@ ghost use Rattle.x509_authorities.specs.DistributionPointName.{PointName, point_
 use crate::implicit_names::some_names_in;
 use std::alloc::Global;
 use x509_der::{BerError, Class, Err, FromDer, Header, Place, Sequence, Tag, Tries};
-use x509_fields::{RelativeDistinguishedName, X509Error};
+use x509_fields::{RelativeDistinguishedName, TryClone, X509Error};
 use x509_general_names::GeneralName;
 
 #[cfg(test)]
@@ -69,6 +69,20 @@ impl<'a> FromDer<'a, X509Error> for DistributionPointName<'a> {
     }
 
     ghost never_memory = { distribution_point_name_laws.laws.never_memory };
+}
+
+impl TryClone for DistributionPointName<'_> {
+    fn try_clone(&self) -> Result<Self, X509Error> {
+        let copy = match self {
+            DistributionPointName::FullName(names) => {
+                DistributionPointName::FullName(names.try_clone()?)
+            }
+            DistributionPointName::NameRelativeToCRLIssuer(relative) => {
+                DistributionPointName::NameRelativeToCRLIssuer(relative.try_clone()?)
+            }
+        };
+        Ok(copy)
+    }
 }
 
 // The name at the front of these bytes, what stands behind it, and its mark.

@@ -10,7 +10,7 @@ use crate::implicit_names::soft_some_names_at;
 use crate::reason_flags::{ReasonFlags, reasons_at};
 use std::alloc::Global;
 use x509_der::{Elements, Err, ErrorKind, FromDer, Place, Sequence, Tries, read_run, soft_at};
-use x509_fields::{X509Error, sequence_at};
+use x509_fields::{TryClone, X509Error, sequence_at};
 use x509_general_names::GeneralName;
 use x509_parts::list_error;
 
@@ -85,6 +85,18 @@ impl<'a> FromDer<'a, X509Error> for CRLDistributionPoint<'a> {
     ghost never_memory = { crl_distribution_point_laws.laws.never_memory };
 }
 
+impl TryClone for CRLDistributionPoint<'_> {
+    fn try_clone(&self) -> Result<Self, X509Error> {
+        let distribution_point = self.distribution_point.try_clone()?;
+        let crl_issuer = self.crl_issuer.try_clone()?;
+        Ok(CRLDistributionPoint {
+            distribution_point,
+            reasons: self.reasons,
+            crl_issuer,
+        })
+    }
+}
+
 /// Where lists of revoked certificates are found (RFC 5280, section 4.2.1.13).
 ///
 /// ```text
@@ -140,4 +152,11 @@ impl<'a> FromDer<'a, X509Error> for CRLDistributionPoints<'a> {
     }
 
     ghost never_memory = { crl_distribution_points_laws.laws.never_memory };
+}
+
+impl TryClone for CRLDistributionPoints<'_> {
+    fn try_clone(&self) -> Result<Self, X509Error> {
+        let points = self.points.try_clone()?;
+        Ok(CRLDistributionPoints { points })
+    }
 }

@@ -18,7 +18,7 @@ use std::alloc::Global;
 use std::collections::HashMap;
 use std::hash::BuildHasher;
 use x509_der::{Err, ErrorKind, FromDer, Oid, Place, Sequence, Tries, Two, read_run};
-use x509_fields::{X509Error, sequence_at};
+use x509_fields::{TryClone, X509Error, sequence_at};
 use x509_general_names::GeneralName;
 use x509_parts::{add_to_group, list_error};
 
@@ -91,6 +91,16 @@ impl<'a> FromDer<'a, X509Error> for AccessDescription<'a> {
     }
 
     ghost never_memory = { access_description_laws.laws.never_memory };
+}
+
+impl TryClone for AccessDescription<'_> {
+    fn try_clone(&self) -> Result<Self, X509Error> {
+        let access_location = self.access_location.try_clone()?;
+        Ok(AccessDescription {
+            access_method: self.access_method,
+            access_location,
+        })
+    }
 }
 
 /// Where information about the issuer and its services are found (RFC 5280, section 4.2.2.1).
@@ -177,6 +187,13 @@ impl<'a> FromDer<'a, X509Error> for AuthorityInfoAccess<'a> {
     ghost never_memory = { information_access_laws.laws.never_memory };
 }
 
+impl TryClone for AuthorityInfoAccess<'_> {
+    fn try_clone(&self) -> Result<Self, X509Error> {
+        let accessdescs = self.accessdescs.try_clone()?;
+        Ok(AuthorityInfoAccess { accessdescs })
+    }
+}
+
 /// Where information about the subject and its services are found (RFC 5280, section 4.2.2.2).
 ///
 /// ```text
@@ -259,6 +276,13 @@ impl<'a> FromDer<'a, X509Error> for SubjectInfoAccess<'a> {
     }
 
     ghost never_memory = { information_access_laws.laws.never_memory };
+}
+
+impl TryClone for SubjectInfoAccess<'_> {
+    fn try_clone(&self) -> Result<Self, X509Error> {
+        let accessdescs = self.accessdescs.try_clone()?;
+        Ok(SubjectInfoAccess { accessdescs })
+    }
 }
 
 // Descriptions in a SEQUENCE that they fill, and their mark.

@@ -17,7 +17,7 @@ use crate::implicit_bool::bool_at;
 use crate::reason_flags::{ReasonFlags, reasons_at};
 use std::alloc::Global;
 use x509_der::{Elements, Err, FromDer, Place, Tries, soft_at};
-use x509_fields::{X509Error, sequence_at};
+use x509_fields::{TryClone, X509Error, sequence_at};
 
 #[cfg(test)]
 mod tests;
@@ -100,6 +100,20 @@ impl<'a> FromDer<'a, X509Error> for IssuingDistributionPoint<'a> {
     }
 
     ghost never_memory = { issuing_distribution_point_laws.laws.never_memory };
+}
+
+impl TryClone for IssuingDistributionPoint<'_> {
+    fn try_clone(&self) -> Result<Self, X509Error> {
+        let distribution_point = self.distribution_point.try_clone()?;
+        Ok(IssuingDistributionPoint {
+            distribution_point,
+            only_contains_user_certs: self.only_contains_user_certs,
+            only_contains_ca_certs: self.only_contains_ca_certs,
+            only_some_reasons: self.only_some_reasons,
+            indirect_crl: self.indirect_crl,
+            only_contains_attribute_certs: self.only_contains_attribute_certs,
+        })
+    }
 }
 
 // A BOOLEAN that may be absent, at a place of children, with the number of the next place.

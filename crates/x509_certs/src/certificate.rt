@@ -14,7 +14,7 @@ use crate::validity::Validity;
 use std::alloc::Global;
 use x509_der::{BitString, Err, FromDer, Place, Tries};
 use x509_extensions::{ExtensionIter, X509Extension};
-use x509_fields::{AlgorithmIdentifier, X509Error, X509Name, X509Version};
+use x509_fields::{AlgorithmIdentifier, TryClone, X509Error, X509Name, X509Version};
 use x509_keys::SubjectPublicKeyInfo;
 
 /// A certificate (RFC 5280, section 4.1.1). Its signature is not looked into.
@@ -148,4 +148,16 @@ impl<'a> FromDer<'a, X509Error> for X509Certificate<'a> {
     }
 
     ghost never_memory = { (certificate_laws true).laws.never_memory };
+}
+
+impl TryClone for X509Certificate<'_> {
+    fn try_clone(&self) -> Result<Self, X509Error> {
+        let tbs_certificate = self.tbs_certificate.try_clone()?;
+        Ok(X509Certificate {
+            tbs_certificate,
+            signature_algorithm: self.signature_algorithm,
+            signature_value: self.signature_value,
+            raw: self.raw,
+        })
+    }
 }

@@ -14,7 +14,7 @@ use crate::validity::Validity;
 use std::alloc::Global;
 use x509_der::{Err, FromDer, Place, Sequence, Tries, UnsignedBytes};
 use x509_extensions::{ExtensionIter, X509Extension};
-use x509_fields::{AlgorithmIdentifier, X509Error, X509Name, X509Version, format_serial};
+use x509_fields::{AlgorithmIdentifier, TryClone, X509Error, X509Name, X509Version, format_serial};
 use x509_keys::SubjectPublicKeyInfo;
 
 /// The part of a certificate that is signed (RFC 5280, section 4.1.2).
@@ -162,4 +162,26 @@ impl<'a> FromDer<'a, X509Error> for TbsCertificate<'a> {
     }
 
     ghost never_memory = { (tbs_laws true).laws.never_memory };
+}
+
+impl TryClone for TbsCertificate<'_> {
+    fn try_clone(&self) -> Result<Self, X509Error> {
+        let issuer = self.issuer.try_clone()?;
+        let subject = self.subject.try_clone()?;
+        let extensions = self.extensions.try_clone()?;
+        Ok(TbsCertificate {
+            version: self.version,
+            serial: self.serial,
+            signature: self.signature,
+            issuer,
+            validity: self.validity,
+            subject,
+            subject_pki: self.subject_pki,
+            issuer_uid: self.issuer_uid,
+            subject_uid: self.subject_uid,
+            extensions,
+            raw: self.raw,
+            raw_serial: self.raw_serial,
+        })
+    }
 }

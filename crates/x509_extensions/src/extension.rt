@@ -9,7 +9,7 @@ use crate::parsed::ParsedExtension;
 use crate::parser::X509ExtensionParser;
 use std::alloc::Global;
 use x509_der::{Err, FromDer, Oid, Place, Tries};
-use x509_fields::X509Error;
+use x509_fields::{TryClone, X509Error};
 
 /// An extension of a certificate, of a list or of an entry of one (RFC 5280, section 4.2).
 ///
@@ -90,4 +90,16 @@ impl<'a> FromDer<'a, X509Error> for X509Extension<'a> {
     }
 
     ghost never_memory = { (extension_laws true).laws.never_memory };
+}
+
+impl TryClone for X509Extension<'_> {
+    fn try_clone(&self) -> Result<Self, X509Error> {
+        let parsed_extension = self.parsed_extension.try_clone()?;
+        Ok(X509Extension {
+            oid: self.oid,
+            critical: self.critical,
+            value: self.value,
+            parsed_extension,
+        })
+    }
 }

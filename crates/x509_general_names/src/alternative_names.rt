@@ -14,7 +14,7 @@ ghost use Rattle.x509_general_names.specs.AlternativeNamesLaws.{general_names_la
 use crate::general_name::{GeneralName, context_at};
 use std::alloc::Global;
 use x509_der::{BerError, Err, ErrorKind, FromDer, Place, Sequence, Tries, read_run};
-use x509_fields::{X509Error, sequence_at};
+use x509_fields::{TryClone, X509Error, sequence_at};
 
 #[cfg(test)]
 mod tests;
@@ -65,6 +65,13 @@ impl<'a> FromDer<'a, X509Error> for SubjectAlternativeName<'a> {
     ghost never_memory = { general_names_laws.laws.never_memory };
 }
 
+impl TryClone for SubjectAlternativeName<'_> {
+    fn try_clone(&self) -> Result<Self, X509Error> {
+        let general_names = self.general_names.try_clone()?;
+        Ok(SubjectAlternativeName { general_names })
+    }
+}
+
 /// Other names of the issuer (RFC 5280, section 4.2.1.7).
 ///
 /// ```text
@@ -107,6 +114,13 @@ impl<'a> FromDer<'a, X509Error> for IssuerAlternativeName<'a> {
     }
 
     ghost never_memory = { general_names_laws.laws.never_memory };
+}
+
+impl TryClone for IssuerAlternativeName<'_> {
+    fn try_clone(&self) -> Result<Self, X509Error> {
+        let general_names = self.general_names.try_clone()?;
+        Ok(IssuerAlternativeName { general_names })
+    }
 }
 
 // Names in a SEQUENCE that they fill, and their mark.

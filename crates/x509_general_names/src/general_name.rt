@@ -16,7 +16,7 @@ ghost use Rattle.x509_general_names.specs.GeneralNameLaws.{general_name_laws};
 use std::alloc::Global;
 use std::{fmt, str};
 use x509_der::{Any, BerError, Class, Err, FromDer, HexPairs, Oid, Place, Tag, Tries};
-use x509_fields::{X509Error, X509Name};
+use x509_fields::{TryClone, X509Error, X509Name};
 
 #[cfg(test)]
 mod tests;
@@ -110,6 +110,24 @@ impl<'a> FromDer<'a, X509Error> for GeneralName<'a> {
     }
 
     ghost never_memory = { general_name_laws.laws.never_memory };
+}
+
+impl TryClone for GeneralName<'_> {
+    fn try_clone(&self) -> Result<Self, X509Error> {
+        let copy = match self {
+            GeneralName::OtherName(id, value) => GeneralName::OtherName(*id, *value),
+            GeneralName::RFC822Name(text) => GeneralName::RFC822Name(*text),
+            GeneralName::DNSName(text) => GeneralName::DNSName(*text),
+            GeneralName::X400Address(any) => GeneralName::X400Address(*any),
+            GeneralName::DirectoryName(name) => GeneralName::DirectoryName(name.try_clone()?),
+            GeneralName::EDIPartyName(any) => GeneralName::EDIPartyName(*any),
+            GeneralName::URI(text) => GeneralName::URI(*text),
+            GeneralName::IPAddress(address) => GeneralName::IPAddress(*address),
+            GeneralName::RegisteredID(id) => GeneralName::RegisteredID(*id),
+            GeneralName::Invalid(tag, contents) => GeneralName::Invalid(*tag, *contents),
+        };
+        Ok(copy)
+    }
 }
 
 /// The element of context class that stands at a place.

@@ -15,7 +15,7 @@ ghost use Rattle.x509_general_names.specs.NameConstraints.{subtree_of, subtrees_
 use crate::general_name::GeneralName;
 use std::alloc::Global;
 use x509_der::{Elements, Err, ErrorKind, FromDer, Place, Sequence, Tries, read_run};
-use x509_fields::{X509Error, sequence_at};
+use x509_fields::{TryClone, X509Error, sequence_at};
 use x509_parts::list_error;
 
 #[cfg(test)]
@@ -96,6 +96,17 @@ impl<'a> FromDer<'a, X509Error> for NameConstraints<'a> {
     ghost never_memory = { name_constraints_laws.laws.never_memory };
 }
 
+impl TryClone for NameConstraints<'_> {
+    fn try_clone(&self) -> Result<Self, X509Error> {
+        let permitted_subtrees = self.permitted_subtrees.try_clone()?;
+        let excluded_subtrees = self.excluded_subtrees.try_clone()?;
+        Ok(NameConstraints {
+            permitted_subtrees,
+            excluded_subtrees,
+        })
+    }
+}
+
 impl<'a> FromDer<'a, X509Error> for GeneralSubtree<'a> {
     ghost Value = { GeneralNameValue };
 
@@ -127,6 +138,13 @@ impl<'a> FromDer<'a, X509Error> for GeneralSubtree<'a> {
     }
 
     ghost never_memory = { general_subtree_laws.laws.never_memory };
+}
+
+impl TryClone for GeneralSubtree<'_> {
+    fn try_clone(&self) -> Result<Self, X509Error> {
+        let base = self.base.try_clone()?;
+        Ok(GeneralSubtree { base })
+    }
 }
 
 // Subtrees that may be absent, at a place of children, with the number of the next place and their mark.

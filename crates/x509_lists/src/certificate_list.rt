@@ -13,7 +13,7 @@ use crate::tbs_cert_list::TbsCertList;
 use std::alloc::Global;
 use x509_der::{BitString, Err, FromDer, Place, Tries};
 use x509_extensions::X509Extension;
-use x509_fields::{ASN1Time, AlgorithmIdentifier, X509Error, X509Name, X509Version};
+use x509_fields::{ASN1Time, AlgorithmIdentifier, TryClone, X509Error, X509Name, X509Version};
 use x509_signed::{Signed, read_signed};
 
 /// A list of revoked certificates (RFC 5280, section 5.1). Its signature is not looked into.
@@ -141,4 +141,16 @@ impl<'a> FromDer<'a, X509Error> for CertificateRevocationList<'a> {
     }
 
     ghost never_memory = { certificate_list_laws.laws.never_memory };
+}
+
+impl TryClone for CertificateRevocationList<'_> {
+    fn try_clone(&self) -> Result<Self, X509Error> {
+        let tbs_cert_list = self.tbs_cert_list.try_clone()?;
+        Ok(CertificateRevocationList {
+            tbs_cert_list,
+            signature_algorithm: self.signature_algorithm,
+            signature_value: self.signature_value,
+            raw: self.raw,
+        })
+    }
 }

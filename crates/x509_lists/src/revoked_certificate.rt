@@ -11,7 +11,7 @@ ghost use Rattle.x509_lists.specs.RevokedCertificate.{Revoked, revoked_of, revok
 use std::alloc::Global;
 use x509_der::{Elements, Err, FromDer, Place, Sequence, Tries, UnsignedBytes, field_at, soft_at};
 use x509_extensions::{ExtensionIter, ExtensionSequence, X509Extension};
-use x509_fields::{ASN1Time, X509Error, format_serial, sequence_at};
+use x509_fields::{ASN1Time, TryClone, X509Error, format_serial, sequence_at};
 use x509_signed::read_serial;
 
 /// A certificate that was revoked (RFC 5280, section 5.1.2.6).
@@ -124,4 +124,16 @@ impl<'a> FromDer<'a, X509Error> for RevokedCertificate<'a> {
     }
 
     ghost never_memory = { revoked_laws.laws.never_memory };
+}
+
+impl TryClone for RevokedCertificate<'_> {
+    fn try_clone(&self) -> Result<Self, X509Error> {
+        let extensions = self.extensions.try_clone()?;
+        Ok(RevokedCertificate {
+            user_certificate: self.user_certificate,
+            revocation_date: self.revocation_date,
+            extensions,
+            raw_serial: self.raw_serial,
+        })
+    }
 }

@@ -14,7 +14,9 @@ use crate::revoked_list::RevokedList;
 use std::alloc::Global;
 use x509_der::{Elements, Err, FromDer, Place, Sequence, Tries, soft_at};
 use x509_extensions::{ExtensionIter, X509Extension, X509ExtensionParser};
-use x509_fields::{ASN1Time, AlgorithmIdentifier, X509Error, X509Name, X509Version, sequence_at};
+use x509_fields::{
+    ASN1Time, AlgorithmIdentifier, TryClone, X509Error, X509Name, X509Version, sequence_at,
+};
 
 /// The part of a list that is signed (RFC 5280, section 5.1.2).
 ///
@@ -139,4 +141,22 @@ impl<'a> FromDer<'a, X509Error> for TbsCertList<'a> {
     }
 
     ghost never_memory = { tbs_list_laws.laws.never_memory };
+}
+
+impl TryClone for TbsCertList<'_> {
+    fn try_clone(&self) -> Result<Self, X509Error> {
+        let issuer = self.issuer.try_clone()?;
+        let revoked_certificates = self.revoked_certificates.try_clone()?;
+        let extensions = self.extensions.try_clone()?;
+        Ok(TbsCertList {
+            version: self.version,
+            signature: self.signature,
+            issuer,
+            this_update: self.this_update,
+            next_update: self.next_update,
+            revoked_certificates,
+            extensions,
+            raw: self.raw,
+        })
+    }
 }

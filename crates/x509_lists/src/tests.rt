@@ -1,5 +1,6 @@
 //! Lists, their signed parts and their entries.
 
+mod copies;
 mod entries;
 mod fixtures;
 mod lists;

@@ -16,6 +16,7 @@ use Rattle.x509_objects.specs.Objects.{pkcs}
 use Rattle.x509_fields.specs.declared.error.X509Error.{X509Error}
 use Rattle.x509_fields.specs.declared.error.X509Error.TheVariants as x509
 use Rattle.x509_fields.specs.Fields.{Field, lifted, named}
+use Rattle.x509_extensions.specs.declared.extension.X509Extension.{X509Extension}
 use Rattle.x509_extensions.specs.Extension.{Extension}
 use Rattle.x509_extensions.specs.ExtensionList.{extensions}
 use Rattle.x509_requests.specs.PasswordTexts.{password}
@@ -45,6 +46,11 @@ abbrev pub parsed_of : ParsedCriAttribute → ParsedAttribute
 parsed_of (variants.ChallengePassword p) = ChallengePassword (string_bytes p.0)
 parsed_of (variants.ExtensionRequest r) = ExtensionRequest (request_of r)
 parsed_of variants.UnsupportedAttribute = Unsupported
+
+-- the extensions themselves, in order, of an attribute that asks for some
+abbrev pub extensions_in : ParsedCriAttribute → Option (List X509Extension)
+extensions_in (variants.ExtensionRequest r) = Some r.extensions
+extensions_in _ = None
 
 abbrev pub attribute_of : X509CriAttribute → Attribute
 attribute_of a = record { oid = oid_bytes a.oid; value = a.value.now; parsed = parsed_of a.parsed_attribute }

@@ -1,14 +1,14 @@
 //! Attributes of a request.
 
-ghost use Rattle.std.specs.Prelude.{◌≡◌, ◌≤◌, ◌+◌, ◌-◌, ◌*◌, true, false, length, IfOk};
+ghost use Rattle.std.specs.Prelude.{◌≡◌, ◌≤◌, ◌+◌, ◌-◌, ◌*◌, true, false, length, IfOk, MatchResult};
 ghost use Rattle.x509_der.specs.Oid.{oid_bytes};
 ghost use Rattle.x509_der.specs.Primitives.{is_constructed};
 ghost use Rattle.x509_der.specs.declared.error.Err.TheVariants.{Error};
 ghost use Rattle.x509_der.specs.Promises.{Answers, is_excused};
-ghost use Rattle.x509_fields.specs.declared.error.X509Error.TheVariants.{InvalidAttributes};
+ghost use Rattle.x509_fields.specs.declared.error.X509Error.TheVariants.{InvalidAttributes, OutOfMemory};
 ghost use Rattle.x509_der.specs.Reading.{loose};
 ghost use Rattle.x509_fields.specs.Errors.{is_x509_memory};
-ghost use Rattle.x509_requests.specs.CriAttribute.{Attribute, attribute_of, parsed_of, attribute, attribute_heads, kind_of, said_by, marks_of_values};
+ghost use Rattle.x509_requests.specs.CriAttribute.{Attribute, attribute_of, parsed_of, extensions_in, attribute, attribute_heads, kind_of, said_by, marks_of_values};
 ghost use Rattle.x509_requests.specs.AttributeLaws.{attribute_laws};
 
 use crate::attribute_kind::AttributeKind;
@@ -17,7 +17,7 @@ use crate::extension_request::ExtensionRequest;
 use crate::password::{ChallengePassword, read_password};
 use std::alloc::Global;
 use x509_der::{Class, Err, FromDer, Header, Oid, Place, Tag, Tries};
-use x509_fields::X509Error;
+use x509_fields::{TryClone, X509Error};
 
 /// An attribute of a certification request (RFC 2986, section 4.1).
 ///
@@ -49,7 +49,47 @@ pub enum ParsedCriAttribute<'a> {
     UnsupportedAttribute,
 }
 
+impl ParsedCriAttribute<'_> {
+    /// The same password or extensions, in memory of their own.
+    ///
+    /// # Errors
+    ///
+    /// `OutOfMemory`.
+    pub fn try_clone(&self) -> Result<Self, X509Error>
+        ensures copies { MatchResult result (λ copy. parsed_of copy ≡ parsed_of self.now) (λ e. e ≡ OutOfMemory) }
+        ensures extensions { IfOk result (λ copy. extensions_in copy ≡ extensions_in self.now) }
+    {
+        let copy = match self {
+            ParsedCriAttribute::ChallengePassword(password) => {
+                ParsedCriAttribute::ChallengePassword(password.try_clone()?)
+            }
+            ParsedCriAttribute::ExtensionRequest(request) => {
+                ParsedCriAttribute::ExtensionRequest(request.try_clone()?)
+            }
+            ParsedCriAttribute::UnsupportedAttribute => ParsedCriAttribute::UnsupportedAttribute,
+        };
+        Ok(copy)
+    }
+}
+
 impl<'a> X509CriAttribute<'a> {
+    /// The same attribute, with what its value says in memory of its own.
+    ///
+    /// # Errors
+    ///
+    /// `OutOfMemory`.
+    pub fn try_clone(&self) -> Result<Self, X509Error>
+        ensures copies { MatchResult result (λ copy. attribute_of copy ≡ attribute_of self.now) (λ e. e ≡ OutOfMemory) }
+        ensures extensions { IfOk result (λ copy. extensions_in copy.parsed_attribute ≡ extensions_in self.now.parsed_attribute) }
+    {
+        let parsed_attribute = self.parsed_attribute.try_clone()?;
+        Ok(X509CriAttribute {
+            oid: self.oid,
+            value: self.value,
+            parsed_attribute,
+        })
+    }
+
     /// What the value says.
     pub fn parsed_attribute(&self) -> &ParsedCriAttribute<'a>
         ensures { result.now ≡ self.now.parsed_attribute }

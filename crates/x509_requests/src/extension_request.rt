@@ -10,7 +10,7 @@ ghost use Rattle.x509_requests.specs.ExtensionRequest.{request_of};
 use std::alloc::Global;
 use x509_der::{Err, FromDer, Place, Sequence, Tries};
 use x509_extensions::{ExtensionSequence, X509Extension};
-use x509_fields::X509Error;
+use x509_fields::{TryClone, X509Error};
 
 /// Extensions that the certificate is to have (RFC 2985, section 5.4.2), with what their values say.
 ///
@@ -56,4 +56,11 @@ impl<'a> FromDer<'a, X509Error> for ExtensionRequest<'a> {
     }
 
     ghost never_memory = { (extensions_laws true).laws.never_memory };
+}
+
+impl TryClone for ExtensionRequest<'_> {
+    fn try_clone(&self) -> Result<Self, X509Error> {
+        let extensions = self.extensions.try_clone()?;
+        Ok(ExtensionRequest { extensions })
+    }
 }

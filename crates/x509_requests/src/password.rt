@@ -1,9 +1,10 @@
 //! The text of a challenge password.
 
-ghost use Rattle.std.specs.Prelude.{◌≡◌, ◌≤◌, string_bytes, true, IfOk, length};
+ghost use Rattle.std.specs.Prelude.{◌≡◌, ◌≤◌, string_bytes, true, IfOk, MatchResult, length};
 ghost use Rattle.x509_der.specs.Looks.{behind, is_element};
 ghost use Rattle.x509_der.specs.Place.{at};
 ghost use Rattle.x509_der.specs.Promises.{Answers};
+ghost use Rattle.x509_fields.specs.declared.error.X509Error.TheVariants.{OutOfMemory};
 ghost use Rattle.x509_fields.specs.Errors.{is_x509_memory};
 ghost use Rattle.x509_fields.specs.NameTexts.{IsText};
 ghost use Rattle.x509_requests.specs.PasswordTexts.{utf32_text, password_text, password};
@@ -15,6 +16,20 @@ use x509_fields::{X509Error, utf8_text, utf16_text};
 /// A password by which a certificate can be revoked (RFC 2985, section 5.4.1).
 #[derive(Debug, Drop, PartialEq, Eq)]
 pub struct ChallengePassword(pub String);
+
+impl ChallengePassword {
+    /// The same text in memory of its own.
+    ///
+    /// # Errors
+    ///
+    /// `OutOfMemory`.
+    pub fn try_clone(&self) -> Result<Self, X509Error>
+        ensures copies { MatchResult result (λ copy. string_bytes copy.0 ≡ string_bytes self.now.0) (λ e. e ≡ OutOfMemory) }
+    {
+        let text = self.0.clone()?;
+        Ok(ChallengePassword(text))
+    }
+}
 
 /// The password at a place, in any of five types of strings.
 #[tactic(auto, unfolding(crate::specs::PasswordTexts::password, crate::specs::PasswordTexts::password_element, x509_der::specs::Leaves::any))]

@@ -1,6 +1,7 @@
 //! Certification requests and their attributes.
 
 mod attributes;
+mod copies;
 mod fixtures;
 mod look_ups;
 mod memory_refused;

@@ -19,17 +19,17 @@ impl CtVersion {
 }
 
 /// The log that signed: the SHA-256 hash of its public key (RFC 6962, section 3.2).
-#[derive(Clone, Debug, PartialEq, Eq, Drop)]
+#[derive(Clone, Copy, Debug, PartialEq, Eq)]
 pub struct CtLogID<'a> {
     pub key_id: &'a [u8; 32],
 }
 
 /// Extensions of the protocol, of which RFC 6962 defines none (section 3.2); at most 65,535 bytes.
-#[derive(Clone, Debug, PartialEq, Eq, Drop)]
+#[derive(Clone, Copy, Debug, PartialEq, Eq)]
 pub struct CtExtensions<'a>(pub &'a [u8]);
 
 /// A signature and its algorithms, by their numbers in TLS (RFC 5246, sections 4.7 and 7.4.1.4.1).
-#[derive(Clone, Debug, PartialEq, Eq, Drop)]
+#[derive(Clone, Copy, Debug, PartialEq, Eq)]
 pub struct DigitallySigned<'a> {
     /// The hash algorithm: 4 for SHA-256.
     pub hash_alg_id: u8,
@@ -50,7 +50,7 @@ pub struct DigitallySigned<'a> {
 ///     digitally-signed struct { .. };
 /// } SignedCertificateTimestamp;
 /// ```
-#[derive(Clone, Debug, PartialEq, Eq, Drop)]
+#[derive(Clone, Copy, Debug, PartialEq, Eq)]
 pub struct SignedCertificateTimestamp<'a> {
     pub version: CtVersion,
     pub id: CtLogID<'a>,

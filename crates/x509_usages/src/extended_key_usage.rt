@@ -12,7 +12,7 @@ ghost use Rattle.x509_usages.specs.ExtendedKeyUsage.{AreBehindFirst, Usages, nam
 use std::alloc::Global;
 use std::collections::BTreeSet;
 use x509_der::{BerError, Err, ErrorKind, FromDer, Oid, Place, Sequence, Tries};
-use x509_fields::{X509Error, sequence_at};
+use x509_fields::{TryClone, X509Error, sequence_at};
 use x509_parts::list_error;
 
 #[derive(Clone, Copy)]
@@ -240,6 +240,22 @@ impl<'a> FromDer<'a, X509Error> for ExtendedKeyUsage<'a> {
     }
 
     ghost never_memory = { extended_key_usage_laws.laws.never_memory };
+}
+
+impl TryClone for ExtendedKeyUsage<'_> {
+    fn try_clone(&self) -> Result<Self, X509Error> {
+        let other = self.other.try_copy()?;
+        Ok(ExtendedKeyUsage {
+            any: self.any,
+            server_auth: self.server_auth,
+            client_auth: self.client_auth,
+            code_signing: self.code_signing,
+            email_protection: self.email_protection,
+            time_stamping: self.time_stamping,
+            ocsp_signing: self.ocsp_signing,
+            other,
+        })
+    }
 }
 
 #[cfg(test)]

@@ -26,3 +26,6 @@ pub use policies::{CertificatePolicies, PolicyInformation, PolicyList, PolicyQua
 pub use policy_constraints::PolicyConstraints;
 pub use policy_mapping::{PolicyMapping, PolicyMappings};
 pub use reason_code::ReasonCodeValue;
+
+#[cfg(test)]
+mod tests;

@@ -9,7 +9,7 @@ use std::alloc::Global;
 use x509_der::{
     BerError, Elements, Err, FromDer, Oid, Place, Sequence, Tries, read_run1, read_to_end, soft_at,
 };
-use x509_fields::{X509Error, sequence_at};
+use x509_fields::{TryClone, X509Error, sequence_at};
 
 /// What is said of a policy (RFC 5280, section 4.2.1.4).
 ///
@@ -164,6 +164,19 @@ impl<'a> FromDer<'a, BerError> for PolicyInformation<'a> {
     ghost never_memory = { policy_laws.laws.never_memory };
 }
 
+impl TryClone for PolicyInformation<'_> {
+    fn try_clone(&self) -> Result<Self, X509Error> {
+        let policy_qualifiers = match &self.policy_qualifiers {
+            Some(qualifiers) => Some(qualifiers.try_copy()?),
+            None => None,
+        };
+        Ok(PolicyInformation {
+            policy_id: self.policy_id,
+            policy_qualifiers,
+        })
+    }
+}
+
 /// The policies, in the order in which they stand (RFC 5280, section 4.2.1.4).
 pub type CertificatePolicies<'a> = Sequence<PolicyInformation<'a>>;
 
@@ -212,6 +225,13 @@ impl<'a> FromDer<'a, X509Error> for PolicyList<'a> {
     }
 
     ghost never_memory = { policies_laws.laws.never_memory };
+}
+
+impl TryClone for PolicyList<'_> {
+    fn try_clone(&self) -> Result<Self, X509Error> {
+        let policies = self.policies.try_clone()?;
+        Ok(PolicyList { policies })
+    }
 }
 
 #[cfg(test)]

@@ -13,7 +13,7 @@ use std::alloc::Global;
 use std::collections::HashMap;
 use std::hash::BuildHasher;
 use x509_der::{BerError, Err, FromDer, Oid, Place, Sequence, Tries, Two, read_to_end};
-use x509_fields::{X509Error, sequence_at};
+use x509_fields::{TryClone, X509Error, sequence_at};
 use x509_parts::add_to_group;
 
 /// A policy of the issuer, and the subject's that it holds for equivalent (RFC 5280, section 4.2.1.5).
@@ -184,6 +184,13 @@ impl<'a> FromDer<'a, X509Error> for PolicyMappings<'a> {
     }
 
     ghost never_memory = { policy_mappings_laws.laws.never_memory };
+}
+
+impl TryClone for PolicyMappings<'_> {
+    fn try_clone(&self) -> Result<Self, X509Error> {
+        let mappings = self.mappings.try_copy()?;
+        Ok(PolicyMappings { mappings })
+    }
 }
 
 #[cfg(test)]

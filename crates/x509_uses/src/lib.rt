@@ -1,4 +1,5 @@
-//! What a user can conclude from the contracts of the reader: five short callers, none of which has a proof file.
+//! What a user can conclude from the contracts of the reader: five short callers, a validator and a visitor, none of which has a
+//! proof file.
 //!
 //! Three words of the contracts below say what a certificate is. `certificate deep` is the grammar, with what the values of
 //! extensions say or without (RFC 5280, section 4.1); `certificate_of` is the value that a certificate in memory stands for;
@@ -17,6 +18,10 @@ use x509_parser::der::Tries;
 use x509_parser::error::X509Result;
 use x509_parser::parse_x509_certificate;
 use x509_parser::time::ASN1Time;
+
+mod linting;
+
+pub use linting::{CriticalExtensions, SerialLength};
 
 #[cfg(test)]
 mod tests;

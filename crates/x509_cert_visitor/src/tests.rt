@@ -1,0 +1,5 @@
+//! Walks over certificates.
+
+mod fixtures;
+mod in_order;
+mod others;

@@ -1,0 +1,5 @@
+pub mod Findings
+pub mod Kept
+pub mod Logs
+pub mod Steps
+pub mod Walking

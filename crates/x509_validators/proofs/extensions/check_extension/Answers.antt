@@ -1,0 +1,4 @@
+use Rattle.x509_validators.proofs.extensions.check_extension.Goals as goal
+
+pub returns-clause-logs : goal.returns-clause-logs
+returns-clause-logs g c = rw (← c.parsed_extension-value.ensures) c.check_value.ensures.logs

@@ -1,0 +1,13 @@
+use Rattle.std.proofs.Common.{◌≡◌, map, take}
+use Rattle.std.specs.List.{flat_map, list_all}
+use Rattle.x509_extensions.specs.Extension.{extension_of}
+use Rattle.x509_loggers.specs.Steps.{Took}
+use Rattle.x509_validators.specs.Readings.{reading_messages, is_readable}
+use Rattle.x509_validators.proofs.readings.check_readings.Given as goal
+
+abbrev pub invariant-loop-extension : goal.invariant-loop-extension
+invariant-loop-extension g l = record {
+  can : g.L.Logger.can_log l.logger;
+  took : Took g.L.Logger.step l.initial.logger (flat_map reading_messages (map extension_of (take l.extension-index l.extensions))) l.logger;
+  answer : l.readable ≡ list_all is_readable (map extension_of (take l.extension-index l.extensions));
+}

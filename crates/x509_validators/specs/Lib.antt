@@ -1,0 +1,11 @@
+pub mod AlternativeNames
+pub mod Charset
+pub mod Duplicates
+pub mod Extensions
+pub mod Names
+pub mod PublicKey
+pub mod Readings
+pub mod Serial
+pub mod SignedPart
+pub mod Times
+pub mod Versions
