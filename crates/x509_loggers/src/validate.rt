@@ -1,7 +1,8 @@
 //! A validator and one of the loggers, in one call.
 
-ghost use Rattle.std.specs.Prelude.{◌≡◌, IfOk, map};
+ghost use Rattle.std.specs.Prelude.{◌≡◌, IfOk, IfErr, map};
 ghost use Rattle.std.specs.String.{string_bytes};
+ghost use Rattle.x509_fields.specs.declared.error.X509Error.TheVariants.{OutOfMemory};
 ghost use Rattle.x509_loggers.specs.Message.{Logs, warnings_of, errors_of};
 ghost use Rattle.x509_loggers.specs.CallbackLogger.{calls};
 ghost use Rattle.x509_loggers.specs.declared.callback_logger.CallbackLogger.{CallbackLogger};
@@ -54,6 +55,7 @@ pub fn validate_to_vec<'a, V: Validator<'a>>(
         (λ r. map string_bytes r.1.items ≡ warnings_of (V.messages validator.now item.now)) }
     ensures errors { IfOk result
         (λ r. map string_bytes r.2.items ≡ errors_of (V.messages validator.now item.now)) }
+    ensures refused { IfErr result (λ e. e ≡ OutOfMemory) }
 {
     let mut logger = VecLogger::new(alloc);
     let answer = validator.validate(alloc, item, &mut logger)?;

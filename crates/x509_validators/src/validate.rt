@@ -1,7 +1,8 @@
 //! Certificates that look for their own faults.
 
-ghost use Rattle.std.specs.Prelude.{◌≡◌, IfOk, map};
+ghost use Rattle.std.specs.Prelude.{◌≡◌, IfOk, IfErr, map};
 ghost use Rattle.std.specs.String.{string_bytes};
+ghost use Rattle.x509_fields.specs.declared.error.X509Error.TheVariants.{OutOfMemory};
 ghost use Rattle.x509_loggers.specs.CallbackLogger.{calls};
 ghost use Rattle.x509_loggers.specs.Message.{Logs, warnings_of, errors_of};
 
@@ -47,7 +48,8 @@ pub trait Validate {
         ensures warnings { IfOk result
             (λ r. map string_bytes r.1.items ≡ warnings_of (messages self.now)) }
         ensures errors { IfOk result
-            (λ r. map string_bytes r.2.items ≡ errors_of (messages self.now)) };
+            (λ r. map string_bytes r.2.items ≡ errors_of (messages self.now)) }
+        ensures refused { IfErr result (λ e. e ≡ OutOfMemory) };
 }
 
 /// By [`X509StructureValidator`].
