@@ -4,3 +4,4 @@ pub mod NextUpdate
 pub mod Issue
 pub mod TbsCertList
 pub mod CertificateList
+pub mod FindRevoked

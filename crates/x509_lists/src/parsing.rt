@@ -3,12 +3,13 @@
 ghost use Rattle.std.specs.Prelude.{true, IfOk};
 ghost use Rattle.x509_der.specs.Promises.{ReadsExactly};
 ghost use Rattle.x509_fields.specs.Errors.{is_x509_memory};
-ghost use Rattle.x509_lists.specs.CertificateList.{ListStands, list_of, certificate_list};
+ghost use Rattle.x509_lists.specs.CertificateList.{ListStands, list_of, certificate_list, plain_list};
 
 use crate::certificate_list::CertificateRevocationList;
 use std::alloc::Global;
-use x509_der::FromDer;
+use x509_der::{FromDer, Tries};
 use x509_fields::X509Result;
+use x509_signed::read_plain;
 
 /// Reads the list of revoked certificates at the front of the bytes (RFC 5280, section 5.1), and gives what stands behind it.
 ///
@@ -39,4 +40,23 @@ pub fn parse_crl_der<'a>(
     ensures stands { IfOk result (λ x. ListStands i.now (list_of x.1) x.0.now) }
 {
     parse_x509_crl(alloc, i)
+}
+
+/// Reads the list of revoked certificates at the front of the bytes where it stands plainly, by no rule that is looser than the
+/// standard, and gives what stands behind it.
+///
+/// # Errors
+///
+/// Those of [`parse_x509_crl`], and `Error(Generic)` where a list is read that doesn't stand plainly.
+pub fn parse_x509_crl_strict<'a>(
+    alloc: Global,
+    i: &'a [u8],
+) -> X509Result<'a, CertificateRevocationList<'a>>
+    ensures exact { ReadsExactly is_x509_memory true (λ x. (x.0.now, list_of x.1)) plain_list i.now result }
+    ensures stands { IfOk result (λ x. ListStands i.now (list_of x.1) x.0.now) }
+{
+    match read_plain::<CertificateRevocationList>(alloc, &mut Tries::new(), i) {
+        Ok((rest, list)) => Ok((rest, list)),
+        Err(e) => Err(e),
+    }
 }

@@ -1,5 +1,6 @@
 //! Lists, their signed parts and their entries.
 
+mod changed_bytes;
 mod copies;
 mod entries;
 mod fixtures;
@@ -8,3 +9,5 @@ mod look_ups;
 mod marks;
 mod memory;
 mod real;
+mod revoked;
+mod strict;

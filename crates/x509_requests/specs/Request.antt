@@ -1,8 +1,12 @@
 -- Certification requests (RFC 2986, 4.2).
 use Rattle.std.specs.Prelude.{ℕ, List}
-use Rattle.x509_der.specs.Laws.{IsMarkedElement}
+use Rattle.x509_der.specs.declared.error.Err.TheVariants.{Error}
+use Rattle.x509_der.specs.Laws.{IsElement, IsMarkedElement}
+use Rattle.x509_der.specs.Plan.{plain_only}
 use Rattle.x509_der.specs.Primitives.{bit_string}
+use Rattle.x509_der.proofs.Marked.{plain_only_laws}
 use Rattle.x509_fields.specs.Algorithm.{algorithm_of}
+use Rattle.x509_fields.specs.declared.error.X509Error.TheVariants as x509
 use Rattle.x509_fields.specs.Errors.{is_x509_memory}
 use Rattle.x509_fields.specs.Fields.{Field}
 use Rattle.x509_signed.specs.Signed.{Signed, signed, signed_heads, signed_laws, SignedStands}
@@ -22,6 +26,10 @@ certification_request_of r = record {
 unfoldable pub certification_request : Field (Signed RequestInfo)
 certification_request = signed request_info
 
+-- requests that stand plainly, alone
+abbrev pub plain_request : Field (Signed RequestInfo)
+plain_request = plain_only (Error x509.Generic) certification_request
+
 -- A front of the bytes was read as this request. The request's window is that front; its info's window is that part, whole, and read
 -- again by its own reader it gives an equal value and no rest.
 abbrev pub RequestStands : List ℕ → Signed RequestInfo → List ℕ → Type 0
@@ -33,3 +41,6 @@ certification_request_heads = signed_heads info_heads
 pub certification_request_laws : IsMarkedElement is_x509_memory certification_request
 unfolding certification_request
 certification_request_laws = signed_laws request_info request_info_laws
+
+pub plain_request_laws : IsElement is_x509_memory plain_request
+plain_request_laws = plain_only_laws is_x509_memory x509.Generic certification_request certification_request_laws.laws certification_request_laws.marked

@@ -1,6 +1,7 @@
 //! Certification requests and their attributes.
 
 mod attributes;
+mod changed_bytes;
 mod copies;
 mod fixtures;
 mod look_ups;
@@ -9,3 +10,4 @@ mod passwords;
 mod real;
 mod requested;
 mod requests;
+mod strict;

@@ -1,23 +1,23 @@
 -- The one report of a command and an input, and how a failed write within it ends a run.
-use Rattle.std.proofs.Common.{◌≡◌, ◌↔◌, ℕ, ◌<◌, ◌+◌, List, ◌++◌, [], ◌∷◌, length, take, get_or, map, flat_map, Bool, true, false, cond, codes, Option, None, Some, MatchOption, Ok, Err, inl, inr, ap, sym, subst, refl, ◌∙◌, arith}
+use Rattle.std.proofs.Common.{◌≡◌, ◌↔◌, ℕ, ◌<◌, ◌+◌, List, ◌++◌, [], ◌∷◌, length, take, get_or, map, flat_map, Bool, true, false, cond, codes, Option, None, Some, MatchOption, MatchResult, Result, Ok, Err, inl, inr, ap, sym, subst, refl, ◌∙◌, arith}
 use Rattle.std.proofs.lemmas.List.{flat_map_more, map-append, take_more}
 use Rattle.x509_der.specs.declared.error.Err.{Err as Refusal}
 use Rattle.x509_der.specs.Plan.{got, refusing}
-use Rattle.x509_der.specs.Promises.{IsFront, is_excused, option_view}
+use Rattle.x509_der.specs.Promises.{IsFront, ReadsExactly, is_excused, option_view}
 use Rattle.x509_der.specs.Reading.{Reading, Element, strict}
 use Rattle.x509_der.specs.Elements.{ElementIs}
 use Rattle.x509_der.proofs.Results.{got_not_err, err, err_is}
 use Rattle.x509_fields.specs.declared.error.X509Error.{X509Error}
 use Rattle.x509_fields.specs.Errors.{is_x509_memory, x509_word}
 use Rattle.x509_fields.specs.Fields.{Field}
-use Rattle.x509_certs.specs.Certificate.{certificate}
-use Rattle.x509_lists.specs.CertificateList.{certificate_list}
-use Rattle.x509_requests.specs.Request.{certification_request}
+use Rattle.x509_certs.specs.Certificate.{certificate, certificate_by}
+use Rattle.x509_lists.specs.CertificateList.{certificate_list, plain_list}
+use Rattle.x509_requests.specs.Request.{certification_request, plain_request}
 use Rattle.x509_show.specs.Parts.{IsDrainedOf}
 use Rattle.x509_show.specs.Report.{Report, IsOnly, refused_report}
 use Rattle.x509_show.specs.ElementReport.{IsElementReport, accepted_report, reading_report}
 use Rattle.x509_show.specs.CertificateReport.{certificate_text}
-use Rattle.x509_show.specs.FrontReport.{IsFrontReport, front_report}
+use Rattle.x509_show.specs.FrontReport.{IsFrontReport, ReportsAnswer, front_report}
 use Rattle.x509_show.specs.Lines.{line}
 use Rattle.x509_show.specs.ListReport.{list_text, or_none}
 use Rattle.x509_show.specs.RequestReport.{request_text}
@@ -49,7 +49,7 @@ same_front : {A : Type 0} (text_of : A → List ℕ → List ℕ) (a b : A) (m n
 same_front text_of a b m n e = ap (λ x. front_report text_of x m) e.0 ∙ ap (front_report text_of b) e.1
 
 -- what is read of the input, and refused by no reason, gives its one report
-pub accepted_only : {A : Type 0} (plan : Field A) (text_of : A → List ℕ → List ℕ) (input : List ℕ) (value : A) (rest : List ℕ) (report : Report)
+accepted_only : {A : Type 0} (plan : Field A) (text_of : A → List ℕ → List ℕ) (input : List ℕ) (value : A) (rest : List ℕ) (report : Report)
     → IsFront plan input value rest
     → ((a b : A) (m n : List ℕ) → IsFront plan input a m → IsFront plan input b n → (a ≡ b) × (m ≡ n))
     → ((e : Refusal X509Error) → plan.Refuses input e → refusing e ≡ got value rest)
@@ -63,7 +63,7 @@ accepted_only plan text_of input value rest report front only refuses is = recor
 }
 
 -- and so does the reason of a refusal that is not want of memory
-pub refused_only : {A : Type 0} (plan : Field A) (text_of : A → List ℕ → List ℕ) (input : List ℕ) (reason : Refusal X509Error) (report : Report)
+refused_only : {A : Type 0} (plan : Field A) (text_of : A → List ℕ → List ℕ) (input : List ℕ) (reason : Refusal X509Error) (report : Report)
     → is_excused is_x509_memory true reason ≡ false
     → (is_excused is_x509_memory true reason ≡ false → plan.Refuses input reason)
     → ((a : A) (m : List ℕ) → IsFront plan input a m → cond (is_excused is_x509_memory true reason) (Unit {0}) (got a m ≡ err reason))
@@ -76,6 +76,17 @@ refused_only {A} plan text_of input reason report own refused accepts refuses is
     | inr r ↦ r.reported ∙ ap (refused_report x509_word) (err_is A r.reason reason (rw own at refuses r.reason r.refused)) ∙ sym is
   ];
 }
+
+-- what a reader that reads exactly answered gives the one report
+pub one_report : {A X : Type 0} (plan : Field A) (text_of : A → List ℕ → List ℕ) (view : X → List ℕ × A) (input : List ℕ) (read : Result X (Refusal X509Error)) (answer : Result Report Stop)
+    → ReadsExactly is_x509_memory true view plan input read
+    → MatchResult answer (λ r. ReportsAnswer view text_of read r) (λ e. e ≡ stop.Memory)
+    → MatchResult answer (λ r. IsOnly (IsFrontReport plan text_of input) r) (λ e. e ≡ stop.Memory)
+one_report plan text_of view input (Ok x) (Ok r) exact is =
+    accepted_only plan text_of input (view x).1 (view x).0 r exact.accepted exact.only exact.refuses is
+one_report plan text_of view input (Err e) (Ok r) exact is =
+    refused_only plan text_of input e r is.0 exact.refused exact.accepts exact.refuses is.1
+one_report plan text_of view input read (Err e) exact is = is
 
 -- the lines of one more
 pub lines_more : {X Y : Type 0} (line_of : Y → List ℕ) (value : X → Y) (before : List ℕ) (xs : List X) (i : ℕ) (d : X) → i < length xs
@@ -109,10 +120,22 @@ IsReport-status input commands.Der r h = IsElementReport-status input r (h.der r
 IsReport-status input commands.Cert r h = IsFrontReport-status (certificate false) certificate_text input r (h.cert refl)
 IsReport-status input commands.Crl r h = IsFrontReport-status certificate_list list_text input r (h.crl refl)
 IsReport-status input commands.Csr r h = IsFrontReport-status certification_request request_text input r (h.csr refl)
+IsReport-status input commands.CertStrict r h = IsFrontReport-status (certificate_by true true) certificate_text input r (h.cert_strict refl)
+IsReport-status input commands.CrlStrict r h = IsFrontReport-status plain_list list_text input r (h.crl_strict refl)
+IsReport-status input commands.CsrStrict r h = IsFrontReport-status plain_request request_text input r (h.csr_strict refl)
 
 pub IsReport-usage : (command input : List ℕ) → ¬ IsCommand command → IsOnly (IsReport command input) usage_report
 IsReport-usage command input not = record {
-  is = record { der = λ der. absurd (not (inl der)); cert = λ cert. absurd (not (inr (inl cert))); crl = λ crl. absurd (not (inr (inr (inl crl)))); csr = λ csr. absurd (not (inr (inr (inr csr)))); other = λ _. refl };
+  is = record {
+    der = λ der. absurd (not (inl der));
+    cert = λ cert. absurd (not (inr (inl cert)));
+    crl = λ crl. absurd (not (inr (inr (inl crl))));
+    csr = λ csr. absurd (not (inr (inr (inr (inl csr)))));
+    cert_strict = λ cert. absurd (not (inr (inr (inr (inr (inl cert))))));
+    crl_strict = λ crl. absurd (not (inr (inr (inr (inr (inr (inl crl)))))));
+    csr_strict = λ csr. absurd (not (inr (inr (inr (inr (inr (inr csr)))))));
+    other = λ _. refl;
+  };
   only = λ y p. p.other not;
 }
 

@@ -1,12 +1,12 @@
 -- The report of the certificate at the front of an input.
-use Rattle.std.specs.Prelude.{ℕ, List, ◌++◌, false, length, flat_map, codes}
+use Rattle.std.specs.Prelude.{ℕ, List, ◌++◌, true, false, length, flat_map, codes}
 use Rattle.std.specs.Fmt.{decimal}
 use Rattle.x509_der.specs.Hex.{hex_text}
 use Rattle.x509_der.specs.Oid.{oid_text}
 use Rattle.x509_fields.specs.NameTexts.{shown_name}
 use Rattle.x509_fields.specs.Times.{time_text}
 use Rattle.x509_fields.specs.Version.{version_text}
-use Rattle.x509_certs.specs.Certificate.{Certificate, certificate}
+use Rattle.x509_certs.specs.Certificate.{Certificate, certificate, certificate_by}
 use Rattle.x509_show.specs.FrontReport.{IsFrontReport}
 use Rattle.x509_show.specs.Lines.{line, extension_line}
 use Rattle.x509_show.specs.Report.{Report}
@@ -29,3 +29,7 @@ certificate_text c rest =
 -- the report of what the input is by the grammar of certificates; values of extensions are not looked at
 abbrev pub IsCertificateReport : List ℕ → Report → Type 0
 IsCertificateReport input report = IsFrontReport (certificate false) certificate_text input report
+
+-- the same of certificates that stand plainly, with the values of their extensions, alone
+abbrev pub IsStrictCertificateReport : List ℕ → Report → Type 0
+IsStrictCertificateReport input report = IsFrontReport (certificate_by true true) certificate_text input report

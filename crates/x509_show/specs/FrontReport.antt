@@ -1,9 +1,9 @@
 -- The report of what stands at the front of an input by a grammar.
-use Rattle.std.specs.Prelude.{◌≡◌, ℕ, List, ◌⊎◌}
+use Rattle.std.specs.Prelude.{◌≡◌, ℕ, List, true, false, ◌⊎◌, Result, Ok, Err}
 use Rattle.x509_der.specs.declared.error.Err.{Err as Refusal}
-use Rattle.x509_der.specs.Promises.{IsFront}
+use Rattle.x509_der.specs.Promises.{IsFront, is_excused}
 use Rattle.x509_fields.specs.declared.error.X509Error.{X509Error}
-use Rattle.x509_fields.specs.Errors.{x509_word}
+use Rattle.x509_fields.specs.Errors.{x509_word, is_x509_memory}
 use Rattle.x509_fields.specs.Fields.{Field}
 use Rattle.x509_show.specs.Report.{Report, refused_report}
 
@@ -27,3 +27,8 @@ pub record ReportsRefusal {A : Type 0} (plan : Field A) (input : List ℕ) (repo
 -- the report of what the input is by the grammar
 abbrev pub IsFrontReport : {A : Type 0} → Field A → (A → List ℕ → List ℕ) → List ℕ → Report → Type 0
 IsFrontReport plan text_of input report = ReportsFront plan text_of input report ⊎ ReportsRefusal plan input report
+
+-- the report of what a reader answered, seen by view, where it was not want of memory
+abbrev pub ReportsAnswer : {X A : Type 0} → (X → List ℕ × A) → (A → List ℕ → List ℕ) → Result X (Refusal X509Error) → Report → Type 0
+ReportsAnswer view text_of (Ok x) report = report ≡ front_report text_of (view x).1 (view x).0
+ReportsAnswer view text_of (Err e) report = (is_excused is_x509_memory true e ≡ false) × (report ≡ refused_report x509_word e)

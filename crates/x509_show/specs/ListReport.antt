@@ -6,7 +6,7 @@ use Rattle.x509_der.specs.Oid.{oid_text}
 use Rattle.x509_fields.specs.NameTexts.{shown_name}
 use Rattle.x509_fields.specs.Times.{time_text}
 use Rattle.x509_fields.specs.Version.{version_text}
-use Rattle.x509_lists.specs.CertificateList.{certificate_list}
+use Rattle.x509_lists.specs.CertificateList.{certificate_list, plain_list}
 use Rattle.x509_lists.specs.RevokedCertificate.{Revoked}
 use Rattle.x509_lists.specs.TbsCertList.{TbsList}
 use Rattle.x509_signed.specs.Signed.{Signed}
@@ -39,3 +39,7 @@ list_text c rest =
 -- the report of what the input is by the grammar of lists
 abbrev pub IsListReport : List ℕ → Report → Type 0
 IsListReport input report = IsFrontReport certificate_list list_text input report
+
+-- the same of lists that stand plainly, alone
+abbrev pub IsStrictListReport : List ℕ → Report → Type 0
+IsStrictListReport input report = IsFrontReport plain_list list_text input report

@@ -5,7 +5,7 @@ use Rattle.x509_der.specs.Oid.{oid_text}
 use Rattle.x509_fields.specs.NameTexts.{shown_name}
 use Rattle.x509_fields.specs.Version.{version_text}
 use Rattle.x509_requests.specs.CriAttribute.{Attribute}
-use Rattle.x509_requests.specs.Request.{certification_request}
+use Rattle.x509_requests.specs.Request.{certification_request, plain_request}
 use Rattle.x509_requests.specs.RequestInfo.{RequestInfo}
 use Rattle.x509_signed.specs.Signed.{Signed}
 use Rattle.x509_show.specs.FrontReport.{IsFrontReport}
@@ -30,3 +30,7 @@ request_text c rest =
 -- the report of what the input is by the grammar of requests
 abbrev pub IsRequestReport : List ℕ → Report → Type 0
 IsRequestReport input report = IsFrontReport certification_request request_text input report
+
+-- the same of requests that stand plainly, alone
+abbrev pub IsStrictRequestReport : List ℕ → Report → Type 0
+IsStrictRequestReport input report = IsFrontReport plain_request request_text input report

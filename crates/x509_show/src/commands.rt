@@ -5,11 +5,11 @@ ghost use Rattle.x509_show.specs.declared.stop.Stop.TheVariants.{Memory};
 ghost use Rattle.x509_show.specs.Report.{IsOnly};
 ghost use Rattle.x509_show.specs.Commands.{IsCommand, IsReport, command_word};
 
-use crate::certificate_report::certificate_report;
+use crate::certificate_report::{certificate_report, strict_certificate_report};
 use crate::element_report::element_report;
-use crate::list_report::list_report;
+use crate::list_report::{list_report, strict_list_report};
 use crate::report::Report;
-use crate::request_report::request_report;
+use crate::request_report::{request_report, strict_request_report};
 use crate::stop::Stop;
 use std::alloc::Global;
 
@@ -24,6 +24,12 @@ pub enum Command {
     Crl,
     /// The certification request at the front.
     Csr,
+    /// The certificate at the front, where it stands plainly.
+    CertStrict,
+    /// The list of revoked certificates at the front, where it stands plainly.
+    CrlStrict,
+    /// The certification request at the front, where it stands plainly.
+    CsrStrict,
 }
 
 impl Command {
@@ -36,6 +42,9 @@ impl Command {
             "cert" => Some(Command::Cert),
             "crl" => Some(Command::Crl),
             "csr" => Some(Command::Csr),
+            "cert-strict" => Some(Command::CertStrict),
+            "crl-strict" => Some(Command::CrlStrict),
+            "csr-strict" => Some(Command::CsrStrict),
             _ => None,
         }
     }
@@ -49,6 +58,9 @@ impl Command {
             Command::Cert => certificate_report(alloc, input),
             Command::Crl => list_report(alloc, input),
             Command::Csr => request_report(alloc, input),
+            Command::CertStrict => strict_certificate_report(alloc, input),
+            Command::CrlStrict => strict_list_report(alloc, input),
+            Command::CsrStrict => strict_request_report(alloc, input),
         }
     }
 }

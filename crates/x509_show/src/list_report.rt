@@ -4,18 +4,21 @@ ghost use Rattle.std.specs.Prelude.{◌≡◌, ◌++◌, IfSome, OnOk, MatchOpti
 ghost use Rattle.x509_der.specs.Promises.{option_view};
 ghost use Rattle.x509_lists.specs.CertificateList.{list_of};
 ghost use Rattle.x509_lists.specs.RevokedCertificate.{revoked_of};
+ghost use Rattle.x509_lists.specs.TbsCertList.{TbsList};
+ghost use Rattle.x509_signed.specs.Signed.{Signed};
 ghost use Rattle.x509_show.specs.declared.stop.Stop.TheVariants.{Memory};
 ghost use Rattle.x509_show.specs.Lines.{line};
-ghost use Rattle.x509_show.specs.ListReport.{IsListReport, or_none, revoked_line, list_text};
+ghost use Rattle.x509_show.specs.ListReport.{IsListReport, IsStrictListReport, or_none, revoked_line, list_text};
 ghost use Rattle.x509_show.specs.Report.{IsOnly};
 
+use crate::front_report::{Shown, front_report};
 use crate::lines::{push_extensions, push_line};
-use crate::report::{Report, refused};
+use crate::report::Report;
 use crate::stop::Stop;
 use std::alloc::{AllocError, Global};
 use std::fmt;
-use x509_parser::parse_x509_crl;
 use x509_parser::revocation_list::{CertificateRevocationList, RevokedCertificate};
+use x509_parser::{parse_x509_crl, parse_x509_crl_strict};
 
 /// Adds the line of a field that may be absent.
 fn push_optional<T: fmt::Display>(
@@ -63,27 +66,28 @@ fn push_all_revoked(
     Ok(())
 }
 
-/// The lines of a list, and of the bytes behind it.
-#[tactic(auto, unfolding(crate::specs::ListReport::list_text))]
-fn list_text(
-    alloc: Global,
-    list: &CertificateRevocationList<'_>,
-    rest: &[u8],
-) -> Result<String, Stop>
-    ensures { MatchResult result (λ s. string_bytes s ≡ list_text (list_of list.now) rest.now) (λ stop. stop ≡ Memory) }
-{
-    let tbs = &list.tbs_cert_list;
-    let mut text = String::new(alloc);
-    push_optional(&mut text, "version", &tbs.version)?;
-    push_line(&mut text, "signature", &list.signature_algorithm.algorithm)?;
-    push_line(&mut text, "issuer", &tbs.issuer)?;
-    push_line(&mut text, "this update", &tbs.this_update)?;
-    push_optional(&mut text, "next update", &tbs.next_update)?;
-    push_all_revoked(alloc, &mut text, tbs.revoked_certificates.as_slice())?;
-    push_extensions(&mut text, tbs.extensions())?;
-    push_line(&mut text, "tbs", &tbs.as_ref().len())?;
-    push_line(&mut text, "rest", &rest.len())?;
-    Ok(text)
+impl Shown for CertificateRevocationList<'_> {
+    ghost Value = { Signed TbsList };
+
+    ghost view = { list_of };
+
+    ghost lines = { list_text };
+
+    #[tactic(auto, unfolding(crate::specs::ListReport::list_text))]
+    fn text(&self, alloc: Global, rest: &[u8]) -> Result<String, Stop> {
+        let tbs = &self.tbs_cert_list;
+        let mut text = String::new(alloc);
+        push_optional(&mut text, "version", &tbs.version)?;
+        push_line(&mut text, "signature", &self.signature_algorithm.algorithm)?;
+        push_line(&mut text, "issuer", &tbs.issuer)?;
+        push_line(&mut text, "this update", &tbs.this_update)?;
+        push_optional(&mut text, "next update", &tbs.next_update)?;
+        push_all_revoked(alloc, &mut text, tbs.revoked_certificates.as_slice())?;
+        push_extensions(&mut text, tbs.extensions())?;
+        push_line(&mut text, "tbs", &tbs.as_ref().len())?;
+        push_line(&mut text, "rest", &rest.len())?;
+        Ok(text)
+    }
 }
 
 /// The report of the list of revoked certificates at the front of the input (RFC 5280, section 5.1): its lines with status 0, or
@@ -91,12 +95,12 @@ fn list_text(
 pub fn list_report(alloc: Global, input: &[u8]) -> Result<Report, Stop>
     ensures { MatchResult result (λ r. IsOnly (IsListReport input.now) r) (λ stop. stop ≡ Memory) }
 {
-    match parse_x509_crl(alloc, input) {
-        Ok((rest, list)) => {
-            let text = list_text(alloc, &list, rest)?;
-            Ok(Report::accepted(text))
-        }
-        Err(refusal) if refusal.is_out_of_memory() => Err(Stop::Memory),
-        Err(refusal) => Ok(refused(alloc, &refusal)?),
-    }
+    front_report(alloc, parse_x509_crl(alloc, input))
+}
+
+/// The same of a list that stands plainly: one that doesn't is refused.
+pub fn strict_list_report(alloc: Global, input: &[u8]) -> Result<Report, Stop>
+    ensures { MatchResult result (λ r. IsOnly (IsStrictListReport input.now) r) (λ stop. stop ≡ Memory) }
+{
+    front_report(alloc, parse_x509_crl_strict(alloc, input))
 }

@@ -1,9 +1,11 @@
-//! Shows what is in the DER that standard input gives: `x509_show der|cert|crl|csr`.
+//! Shows what is in the DER that standard input gives: `x509_show COMMAND`, where the command is `der`, `cert`,
+//! `crl`, `csr`, `cert-strict`, `crl-strict` or `csr-strict`.
 #![tactic(auto)]
 
 mod certificate_report;
 mod commands;
 mod element_report;
+mod front_report;
 mod lines;
 mod list_report;
 mod parts;

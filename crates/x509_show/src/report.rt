@@ -15,7 +15,7 @@ pub const REFUSED: u8 = 1;
 pub const WRONG_WORDS: u8 = 2;
 
 /// What is written where the command line has other words.
-pub const USAGE: &[u8] = b"usage: x509_show der|cert|crl|csr\n";
+pub const USAGE: &[u8] = b"usage: x509_show der|cert|crl|csr|cert-strict|crl-strict|csr-strict\n";
 
 /// What is written of an input, and the exit status.
 #[derive(Drop)]

@@ -3,17 +3,21 @@
 ghost use Rattle.std.specs.Prelude.{◌≡◌, ◌++◌, OnOk, MatchResult, flat_map, map, string_bytes};
 ghost use Rattle.x509_requests.specs.CriAttribute.{attribute_of};
 ghost use Rattle.x509_requests.specs.Request.{certification_request_of};
+ghost use Rattle.x509_requests.specs.RequestInfo.{RequestInfo};
+ghost use Rattle.x509_signed.specs.Signed.{Signed};
 ghost use Rattle.x509_show.specs.declared.stop.Stop.TheVariants.{Memory};
 ghost use Rattle.x509_show.specs.Report.{IsOnly};
-ghost use Rattle.x509_show.specs.RequestReport.{IsRequestReport, attribute_line, request_text};
+ghost use Rattle.x509_show.specs.RequestReport.{IsRequestReport, IsStrictRequestReport, attribute_line, request_text};
 
+use crate::front_report::{Shown, front_report};
 use crate::lines::push_line;
-use crate::report::{Report, refused};
+use crate::report::Report;
 use crate::stop::Stop;
 use std::alloc::{AllocError, Global};
 use x509_parser::certification_request::X509CertificationRequest;
 use x509_parser::cri_attributes::X509CriAttribute;
 use x509_parser::der::FromDer;
+use x509_parser::parse_x509_csr_strict;
 
 /// Adds the line of an attribute.
 fn push_attribute(text: &mut String, attribute: &X509CriAttribute<'_>) -> Result<(), AllocError>
@@ -33,26 +37,27 @@ fn push_attributes(text: &mut String, attributes: &[X509CriAttribute<'_>]) -> Re
     Ok(())
 }
 
-/// The lines of a request, and of the bytes behind it.
-#[tactic(auto, unfolding(crate::specs::RequestReport::request_text))]
-fn request_text(
-    alloc: Global,
-    request: &X509CertificationRequest<'_>,
-    rest: &[u8],
-) -> Result<String, Stop>
-    ensures { MatchResult result (λ s. string_bytes s ≡ request_text (certification_request_of request.now) rest.now) (λ stop. stop ≡ Memory) }
-{
-    let info = &request.certification_request_info;
-    let (algorithm, key) = (&request.signature_algorithm, &info.subject_pki.algorithm);
-    let mut text = String::new(alloc);
-    push_line(&mut text, "version", &info.version)?;
-    push_line(&mut text, "subject", &info.subject)?;
-    push_line(&mut text, "key", &key.algorithm)?;
-    push_line(&mut text, "signature", &algorithm.algorithm)?;
-    push_attributes(&mut text, info.attributes())?;
-    push_line(&mut text, "tbs", &info.raw.len())?;
-    push_line(&mut text, "rest", &rest.len())?;
-    Ok(text)
+impl Shown for X509CertificationRequest<'_> {
+    ghost Value = { Signed RequestInfo };
+
+    ghost view = { certification_request_of };
+
+    ghost lines = { request_text };
+
+    #[tactic(auto, unfolding(crate::specs::RequestReport::request_text))]
+    fn text(&self, alloc: Global, rest: &[u8]) -> Result<String, Stop> {
+        let info = &self.certification_request_info;
+        let (algorithm, key) = (&self.signature_algorithm, &info.subject_pki.algorithm);
+        let mut text = String::new(alloc);
+        push_line(&mut text, "version", &info.version)?;
+        push_line(&mut text, "subject", &info.subject)?;
+        push_line(&mut text, "key", &key.algorithm)?;
+        push_line(&mut text, "signature", &algorithm.algorithm)?;
+        push_attributes(&mut text, info.attributes())?;
+        push_line(&mut text, "tbs", &info.raw.len())?;
+        push_line(&mut text, "rest", &rest.len())?;
+        Ok(text)
+    }
 }
 
 /// The report of the certification request at the front of the input (RFC 2986, section 4.2): its lines with status 0, or why
@@ -60,12 +65,12 @@ fn request_text(
 pub fn request_report(alloc: Global, input: &[u8]) -> Result<Report, Stop>
     ensures { MatchResult result (λ r. IsOnly (IsRequestReport input.now) r) (λ stop. stop ≡ Memory) }
 {
-    match X509CertificationRequest::from_der(alloc, input) {
-        Ok((rest, request)) => {
-            let text = request_text(alloc, &request, rest)?;
-            Ok(Report::accepted(text))
-        }
-        Err(refusal) if refusal.is_out_of_memory() => Err(Stop::Memory),
-        Err(refusal) => Ok(refused(alloc, &refusal)?),
-    }
+    front_report(alloc, X509CertificationRequest::from_der(alloc, input))
+}
+
+/// The same of a request that stands plainly: one that doesn't is refused.
+pub fn strict_request_report(alloc: Global, input: &[u8]) -> Result<Report, Stop>
+    ensures { MatchResult result (λ r. IsOnly (IsStrictRequestReport input.now) r) (λ stop. stop ≡ Memory) }
+{
+    front_report(alloc, parse_x509_csr_strict(alloc, input))
 }

@@ -5,6 +5,7 @@ mod large;
 mod lists;
 mod memory;
 mod requests;
+mod strict;
 
 use self::memory::{MemorySink, MemorySource};
 use crate::element_report::element_report;
@@ -21,7 +22,7 @@ const CERTIFICATE: &[u8] = b"\x30\x40\x30\x36\x02\x01\x01\x30\x03\x06\x01\x2A\x3
 
 const CERTIFICATE_LINE: &str = "universal constructed tag=16 length=64 rest=0\n";
 
-const USAGE: &str = "usage: x509_show der|cert|crl|csr\n";
+const USAGE: &str = "usage: x509_show der|cert|crl|csr|cert-strict|crl-strict|csr-strict\n";
 
 #[test]
 fn inputs(rt: HostRuntime) -> Result<(), Fail> {
@@ -73,7 +74,16 @@ fn inputs(rt: HostRuntime) -> Result<(), Fail> {
 
 #[test]
 fn other_words(rt: HostRuntime) -> Result<(), Fail> {
-    for command in ["", "crls", "cs", "pem", "der x"] {
+    for command in [
+        "",
+        "crls",
+        "cs",
+        "pem",
+        "der x",
+        "der-strict",
+        "cert-",
+        "strict",
+    ] {
         let mut from = MemorySource::new(CERTIFICATE, 0, 1);
         let mut to = MemorySink::new(Vec::new(rt.alloc()), 1000, 1000, 5);
         assert_eq!(rt; run(rt.alloc(), command, &mut from, &mut to), 2);

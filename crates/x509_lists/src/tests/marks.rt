@@ -6,7 +6,7 @@ use std::test::Fail;
 use x509_der::{FromDer, Tries};
 
 /// What stands behind the basic fields, and whether the list stands plainly.
-const LISTS: [(&[u8], bool); 9] = [
+pub const LISTS: [(&[u8], bool); 9] = [
     (b"", true),
     (
         b"\x17\x0D491231235959Z\x30\x14\x30\x12\x02\x01\x2A\x17\x0D700101000000Z",

@@ -65,16 +65,48 @@ fn octets_that_live_shorter(rt: HostRuntime) -> Result<(), Fail> {
     Ok(())
 }
 
+/// Whatever request for memory is refused, the registry is built, or that is said; then it is built.
 #[test]
-fn memory_refused(rt: HostRuntime) {
-    let oid = Oid::new(b"\x2a\x03");
-    let mut registry = OidRegistry::new(rt.alloc());
-    match registry.insert(oid, OidEntry::new("one", "the first")) {
-        Ok(old) => assert_eq!(rt; old, None),
-        Err(AllocError) => assert_eq!(rt; texts(&registry, b"\x2a\x03"), None),
-    }
+fn memory_refused(rt: HostRuntime) -> Result<(), Fail> {
     match oid_registry(rt.alloc()) {
         Ok(known) => assert!(rt; has(&known, OID_X509_COMMON_NAME)),
-        Err(AllocError) => {}
+        Err(AllocError) => {
+            println!(rt; "refused: the registry")?;
+            let known = oid_registry(rt.alloc())?;
+            assert!(rt; has(&known, OID_X509_COMMON_NAME));
+        }
     }
+    Ok(())
+}
+
+/// Identifiers: the first so many of these octets.
+const OCTETS: &[u8] = &[0x2a; 32];
+
+/// Whether the registry has the entries of the identifiers of fewer octets than these, and no more.
+fn has_below(registry: &OidRegistry<'static>, count: usize) -> bool {
+    let mut right = true;
+    for (length, _) in OCTETS.iter().enumerate() {
+        let octets = OCTETS.get(..length).unwrap_or_default();
+        right &= registry.get(&Oid::new(octets)).is_some() == (length < count);
+    }
+    right
+}
+
+/// A registry that is refused memory for an entry has what it had, and takes the entry where there is memory.
+#[test]
+fn memory_refused_to_entries(rt: HostRuntime) -> Result<(), Fail> {
+    let mut registry = OidRegistry::new(rt.alloc());
+    for (length, _) in OCTETS.iter().enumerate() {
+        let oid = Oid::new(OCTETS.get(..length).unwrap_or_default());
+        if registry.insert(oid, OidEntry::new("a", "b")).is_err() {
+            println!(rt; "refused: entry {length}")?;
+            assert!(rt; has_below(&registry, length), "at {length}");
+            assert_eq!(rt; registry.insert(oid, OidEntry::new("a", "b"))?, None);
+        }
+        assert!(rt;
+            has_below(&registry, length.saturating_add(1)),
+            "at {length}"
+        );
+    }
+    Ok(())
 }

@@ -23,7 +23,7 @@ fn plain(rt: HostRuntime) -> Result<(), Fail> {
 }
 
 /// The wrapper's header, of which neither form nor length is looked at, and whether the request stands plainly.
-const WRAPPERS: [(&[u8], bool); 4] = [
+pub const WRAPPERS: [(&[u8], bool); 4] = [
     (b"\xA0\x12", true),
     (b"\xA0\x00", false),
     (b"\xA0\x7F", false),
@@ -52,7 +52,7 @@ fn wrappers(rt: HostRuntime) -> Result<(), Fail> {
 }
 
 /// The wrapper's header, the attributes, and why the request is refused.
-const REFUSED: [(&[u8], &[u8], Err<X509Error>); 5] = [
+pub const REFUSED: [(&[u8], &[u8], Err<X509Error>); 5] = [
     (b"", b"", Err::Error(X509Error::InvalidAttributes)),
     (b"\xA1\x00", b"", Err::Error(X509Error::InvalidAttributes)),
     (

@@ -1,0 +1,24 @@
+-- Serials with the positions of their entries, in order of the serials.
+use Rattle.std.specs.Prelude.{ℕ, ◌<◌, ◌≤◌, List, [], ◌∷◌, Option, Some, None, length, cond, ◌==◌, slice_index_or}
+use Rattle.x509_der.specs.Unsigned.{unsigned_number}
+use Rattle.x509_revoked.specs.declared.entry.Entry.{Entry}
+
+-- a serial as a number, and the position of its entry on the list
+pub record Indexed : Type 0 where
+  pub number : ℕ
+  pub position : ℕ
+
+abbrev pub indexed : Entry → Indexed
+indexed e = record { number = unsigned_number e.serial; position = e.position }
+
+-- the position that stands first with the number
+abbrev pub position_in : List Indexed → ℕ → Option ℕ
+position_in [] number = None
+position_in (x ∷ xs) number = cond (x.number == number) (Some x.position) (position_in xs number)
+
+abbrev pub number_at : List Indexed → ℕ → ℕ
+number_at xs k = let x = slice_index_or xs k (record { number = 0; position = 0 }) in x.number
+
+-- the numbers don't fall
+abbrev pub AreInOrder : List Indexed → Type 0
+AreInOrder xs = (i j : ℕ) → i ≤ j → j < length xs → number_at xs i ≤ number_at xs j

@@ -1,0 +1,8 @@
+use Rattle.x509_requests.specs.Request.{plain_request, certification_request_of}
+use Rattle.x509_show.specs.RequestReport.{request_text}
+use Rattle.x509_show.proofs.Reports.{one_report}
+use Rattle.x509_show.proofs.request_report.strict_request_report.Goals as goal
+
+pub returns : goal.returns
+returns c =
+    one_report plain_request request_text (λ x. (x.0.now, certification_request_of x.1)) c.args.input.now c.parse_x509_csr_strict.result c.front_report.result c.parse_x509_csr_strict.ensures.exact c.front_report.ensures
