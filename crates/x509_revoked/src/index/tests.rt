@@ -15,12 +15,11 @@ const ONE: &[u8; 56] =
 const NONE: &[u8; 34] =
     b"\x30\x20\x30\x16\x30\x03\x06\x01\x2A\x30\x00\x17\x0D700101000000Z\x30\x03\x06\x01\x2A\x03\x01\x00";
 
-/// The element with this identifier octet and these contents.
+/// The element with this identifier octet and these contents, fewer than 128.
 fn element(alloc: Global, identifier: u8, contents: &[u8]) -> Result<Vec<u8>, Fail> {
-    let [high, low] = u16::try_from(contents.len())?.to_be_bytes();
+    let length = u8::try_from(contents.len())?;
     let mut bytes = Vec::new(alloc);
-    bytes.push(identifier)?;
-    bytes.extend_from_slice(&[0x82, high, low])?;
+    bytes.extend_from_slice(&[identifier, length])?;
     bytes.extend_from_slice(contents)?;
     Ok(bytes)
 }
