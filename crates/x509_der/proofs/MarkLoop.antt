@@ -62,6 +62,13 @@ pub some_marked : {F A : Type 0} (why : F) (xs : List A) (place : List ℕ) → 
 some_marked why [] place = refl
 some_marked why (x ∷ xs) place = refl
 
+-- a first member, and those behind it
+pub marks_of_first : {F G A : Type 0} (why : G) (p : Plan F A) → Local p → (first others : Bool) (place : List ℕ) (a : A) (next : List ℕ) (xs : List A) (rest : List ℕ) → IsBytes place → p.read place ≡ got a next
+    → first ≡ p.marks place → others ≡ marks_of_members p next → (first && others) ≡ (marks_of_members p place && (at_least_one why xs).marks rest)
+marks_of_first why p hl first others place a next xs rest k e is behind =
+    ap (λ b. b && others) is ∙ ap (λ b. p.marks place && b) behind ∙ sym (one_more p hl place a next k e)
+    ∙ sym (ap (λ b. marks_of_members p place && b) (some_marked why xs rest) ∙ and_true (marks_of_members p place))
+
 pub ruleset marks_of_some = (some_marked, and_true)
 
 pub marks_at_end : {F A : Type 0} (p : Plan F A) → (so_far : Bool) (rest : List ℕ) (total : Bool) → length rest ≡ 0 → (so_far && marks_of_members p rest) ≡ total → so_far ≡ total

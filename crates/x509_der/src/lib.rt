@@ -18,6 +18,7 @@ mod oid;
 mod place;
 mod primitive;
 mod run;
+mod set_of;
 mod tries;
 mod unsigned;
 
@@ -41,6 +42,7 @@ pub use list::Sequence;
 pub use oid::Oid;
 pub use place::Place;
 pub use run::{field_at, read_run, read_run1, read_to_end, soft_at};
+pub use set_of::{SetOf, read_set_of};
 pub use tries::Tries;
 pub use unsigned::UnsignedBytes;
 

@@ -14,6 +14,7 @@ use Rattle.x509_der.proofs.Marking.{marked, mapped_marked, plain_when_marked}
 use Rattle.x509_fields.specs.Errors.{is_x509_memory}
 use Rattle.x509_der.specs.Oid.{oid_bytes}
 use Rattle.x509_extensions.specs.declared.extension.X509Extension.{X509Extension}
+use Rattle.x509_extensions.specs.declared.parser.Envelope.{Envelope}
 
 -- ---- the value
 
@@ -26,6 +27,10 @@ pub record Extension : Type 0 where
 
 abbrev pub extension_of : X509Extension → Extension
 extension_of e = record { oid = oid_bytes e.oid; critical = e.critical; value = e.value.now; parsed = parsed_of e.parsed_extension }
+
+-- the same of an envelope, whose value isn't looked at
+abbrev pub envelope_of : Envelope → Extension
+envelope_of e = record { oid = oid_bytes e.oid; critical = e.critical; value = e.value.now; parsed = Unparsed }
 
 -- ---- depth
 

@@ -99,8 +99,8 @@ impl X509ExtensionParser {
         Ok((list, closes & plain))
     }
 
-    // Extensions up to the end of the bytes.
-    fn read_to_end<'a>(
+    /// Extensions up to the end of the bytes. Room is asked for first: for one in each 32 bytes, and for eight at most.
+    pub(crate) fn read_to_end<'a>(
         &self,
         alloc: Global,
         tries: &mut Tries,
@@ -113,7 +113,10 @@ impl X509ExtensionParser {
         ensures least { IfOk result (λ x. AddsAtLeast (sum_by extension_heads (map extension_of x.0)) tries.old tries.new) }
         ensures shallow { self.now.deep_parse_extensions ≡ false → IfOk result (λ x. tries.new + 8 * value_bytes (map extension_of x.0) ≤ tries.old + 8 * length i.now) }
     {
-        let mut list = Sequence::new(alloc);
+        let mut list = match Vec::with_capacity(alloc, i.len().div_ceil(32).min(8)) {
+            Ok(room) => Sequence::from_vec(room),
+            Err(_) => return Err(Err::out_of_memory()),
+        };
         let mut rest = i;
         let mut plain = true;
         while !rest.is_empty() {

@@ -7,8 +7,9 @@ ghost use Rattle.x509_extensions.specs.Extension.{Extension};
 ghost use Rattle.x509_extensions.specs.ExtensionList.{extensions_of, extensions, extensions_heads, extensions_laws};
 
 use crate::extension::X509Extension;
+use crate::parser::X509ExtensionParser;
 use std::alloc::Global;
-use x509_der::{Err, FromDer, Place, Sequence, Tries, read_to_end};
+use x509_der::{Err, FromDer, Place, Sequence, Tries};
 use x509_fields::{X509Error, sequence_at};
 
 /// Extensions, with what their values say (RFC 5280, section 4.1.2.9).
@@ -50,7 +51,7 @@ impl<'a> FromDer<'a, X509Error> for ExtensionSequence<'a> {
         place: &Place<'a>,
     ) -> Result<(Self, bool), Err<X509Error>> {
         let contents = sequence_at(place)?;
-        let (list, plain) = read_to_end(alloc, tries, contents)?;
+        let (list, plain) = X509ExtensionParser::new().read_to_end(alloc, tries, contents)?;
         Ok((ExtensionSequence { list }, plain))
     }
 

@@ -7,13 +7,12 @@ ghost use Rattle.x509_der.specs.Primitives.{is_constructed};
 ghost use Rattle.x509_der.specs.Promises.{Answers, ReadsExactly, TriesBounded, IsForeign};
 ghost use Rattle.x509_der.specs.Reading.{Gives, AddsAtLeast, strict};
 ghost use Rattle.x509_fields.specs.Errors.{is_x509_memory};
-ghost use Rattle.x509_extensions.specs.Extension.{extension_of, extension_heads, envelope_fields, envelope, extension};
-ghost use Rattle.x509_extensions.specs.Parsed.{parsed_of, Unparsed};
+ghost use Rattle.x509_extensions.specs.Extension.{extension_of, extension_heads, envelope_of, envelope_fields, envelope, extension};
 
 use crate::extension::X509Extension;
 use crate::parsed::{ParsedExtension, parse_value};
 use std::alloc::Global;
-use x509_der::{Err, Place, Three, Tries};
+use x509_der::{Err, Oid, Place, Three, Tries};
 use x509_fields::{X509Error, X509Result, sequence_at};
 
 /// Reads extensions, with or without what their values say.
@@ -102,6 +101,7 @@ impl X509ExtensionParser {
     }
 
     /// Reads the extension at a place that was looked at.
+    #[inline(always)]
     #[tactic(auto, unfolding(crate::specs::Extension::extension))]
     pub fn read_at<'a>(
         &self,
@@ -118,32 +118,54 @@ impl X509ExtensionParser {
         ensures there { IfOk result (λ _. is_element (at place.now) ≡ true) }
         ensures shallow { self.now.deep_parse_extensions ≡ false → IfOk result (λ x. tries.new + 9 + 8 * length x.0.value.now + 8 * length (behind (at place.now)) ≤ tries.old + 8 * length (at place.now)) }
     {
-        let (mut extension, envelope_plain) = read_envelope(tries, place)?;
-        let mut value_plain = true;
-        if self.deep_parse_extensions {
-            let (parsed, plain) = parse_value(alloc, tries, &extension.oid, extension.value)?;
-            extension.parsed_extension = parsed;
-            value_plain = plain;
+        let (envelope, envelope_plain) = read_envelope(tries, place)?;
+        let Envelope {
+            oid,
+            critical,
+            value,
+        } = envelope;
+        if !self.deep_parse_extensions {
+            let extension = X509Extension {
+                oid,
+                critical,
+                value,
+                parsed_extension: ParsedExtension::Unparsed,
+            };
+            return Ok((extension, envelope_plain));
         }
+        let (parsed_extension, value_plain) = parse_value(alloc, tries, &oid, value)?;
+        let extension = X509Extension {
+            oid,
+            critical,
+            value,
+            parsed_extension,
+        };
         Ok((extension, value_plain & envelope_plain))
     }
 }
 
-// The three fields of an extension, with the refusals of each. The value isn't looked at.
+/// An extension whose value isn't looked at.
+#[derive(Clone, Copy)]
+pub(crate) struct Envelope<'a> {
+    oid: Oid<'a>,
+    critical: bool,
+    value: &'a [u8],
+}
+
+// The three fields of an extension, with the refusals of each.
 #[inline(always)]
 #[tactic(auto, unfolding(crate::specs::Extension::envelope_fields), using(x509_der::proofs::Marking::marks_of_readers))]
 fn read_envelope_fields<'a>(
     tries: &mut Tries,
     place: &Place<'a>,
-) -> Result<(X509Extension<'a>, bool), Err<X509Error>>
-    ensures reads { Gives (λ x. (behind (at place.now), extension_of x.0)) result (envelope_fields.read (at place.now)) }
+) -> Result<(Envelope<'a>, bool), Err<X509Error>>
+    ensures reads { Gives (λ x. (behind (at place.now), envelope_of x.0)) result (envelope_fields.read (at place.now)) }
     ensures marks { IfOk result (λ x. x.1 ≡ envelope_fields.marks (at place.now)) }
     ensures grows { tries.old ≤ tries.new }
-    ensures unparsed { IfOk result (λ x. parsed_of x.0.parsed_extension ≡ Unparsed) }
     ensures count { IfOk result (λ x. tries.new + 9 + 8 * length x.0.value.now + 8 * length (behind (at place.now)) ≤ tries.old + 8 * length (at place.now)) }
     ensures few_tries { tries.new ≤ tries.old + (8 * length (at place.now) - 8) }
     ensures foreign { IsForeign strict (is_constructed 16) (at place.now) → IsErr result × (tries.new ≤ tries.old) }
-    ensures least { IfOk result (λ x. AddsAtLeast (extension_heads (extension_of x.0) - 1) tries.old tries.new) }
+    ensures least { IfOk result (λ x. AddsAtLeast (extension_heads (envelope_of x.0) - 1) tries.old tries.new) }
     ensures there { IfOk result (λ _. is_element (at place.now) ≡ true) }
 {
     let contents = sequence_at(place)?;
@@ -158,30 +180,28 @@ fn read_envelope_fields<'a>(
         Err(_) => (second, false, true),
     };
     let value = last.octets().map_err(|e| e.convert())?;
-    let extension = X509Extension {
+    let envelope = Envelope {
         oid,
         critical,
         value,
-        parsed_extension: ParsedExtension::Unparsed,
     };
-    Ok((extension, plain & last.rest().is_empty()))
+    Ok((envelope, plain & last.rest().is_empty()))
 }
 
-// An extension whose value isn't looked at.
+// The same, with one refusal for all.
 #[inline(always)]
 #[tactic(auto, unfolding(crate::specs::Extension::envelope))]
 fn read_envelope<'a>(
     tries: &mut Tries,
     place: &Place<'a>,
-) -> Result<(X509Extension<'a>, bool), Err<X509Error>>
-    ensures reads { Gives (λ x. (behind (at place.now), extension_of x.0)) result (envelope.read (at place.now)) }
+) -> Result<(Envelope<'a>, bool), Err<X509Error>>
+    ensures reads { Gives (λ x. (behind (at place.now), envelope_of x.0)) result (envelope.read (at place.now)) }
     ensures marks { IfOk result (λ x. x.1 ≡ envelope.marks (at place.now)) }
     ensures grows { tries.old ≤ tries.new }
-    ensures unparsed { IfOk result (λ x. parsed_of x.0.parsed_extension ≡ Unparsed) }
     ensures count { IfOk result (λ x. tries.new + 9 + 8 * length x.0.value.now + 8 * length (behind (at place.now)) ≤ tries.old + 8 * length (at place.now)) }
     ensures few_tries { tries.new ≤ tries.old + (8 * length (at place.now) - 8) }
     ensures foreign { IsForeign strict (is_constructed 16) (at place.now) → IsErr result × (tries.new ≤ tries.old) }
-    ensures least { IfOk result (λ x. AddsAtLeast (extension_heads (extension_of x.0) - 1) tries.old tries.new) }
+    ensures least { IfOk result (λ x. AddsAtLeast (extension_heads (envelope_of x.0) - 1) tries.old tries.new) }
     ensures there { IfOk result (λ _. is_element (at place.now) ≡ true) }
 {
     read_envelope_fields(tries, place).map_err(|_| Err::Error(X509Error::InvalidExtensions))

@@ -75,6 +75,7 @@ impl<'a> FromDer<'a, X509Error> for AlgorithmIdentifier<'a> {
 
     ghost takes_memory = { false };
 
+    #[inline(always)]
     #[tactic(auto, unfolding(crate::specs::Algorithm::algorithm), using(x509_der::proofs::Marking::marks_of_readers))]
     fn read_at(
         _alloc: Global,

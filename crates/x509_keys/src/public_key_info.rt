@@ -67,6 +67,7 @@ impl<'a> FromDer<'a, X509Error> for SubjectPublicKeyInfo<'a> {
 
     ghost takes_memory = { false };
 
+    #[inline(always)]
     #[tactic(auto, unfolding(crate::specs::KeyInfo::key_info), using(x509_der::proofs::Marking::marks_of_readers))]
     fn read_at(
         alloc: Global,
