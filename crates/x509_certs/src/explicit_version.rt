@@ -1,14 +1,13 @@
 //! The version in its wrapper (RFC 5280, section 4.1.2.1).
 
-ghost use Rattle.std.specs.Prelude.{◌≡◌, ◌<◌, ◌≤◌, ◌+◌, ◌-◌, ◌*◌, true, IfOk, IfErr, length};
-ghost use Rattle.x509_der.specs.Children.{window_of, count_of};
-ghost use Rattle.x509_der.specs.Looks.{behind, is_element, place_at, IsNext};
+ghost use Rattle.std.specs.Prelude.{◌≡◌, ◌≤◌, ◌+◌, ◌-◌, ◌*◌, true, IfOk, IfErr, min, length};
+ghost use Rattle.x509_der.specs.Looks.{behind, is_element};
 ghost use Rattle.x509_der.specs.Place.{at};
 ghost use Rattle.x509_der.specs.Promises.{option_view, option_heads};
 ghost use Rattle.x509_der.specs.Reading.{AddsAtLeast, Gives};
 ghost use Rattle.x509_certs.specs.ExplicitVersion.{version_wrapper, wrapped_version, explicit_version};
 
-use x509_der::{Class, Elements, Err, Header, Place, Tag, Tries};
+use x509_der::{Class, Err, Header, Place, Tag, Tries};
 use x509_fields::{X509Error, X509Version};
 
 // The contents of a constructed element.
@@ -51,25 +50,22 @@ fn read_wrapped_version<'a>(
     Ok((X509Version(version), inner.rest().is_empty()))
 }
 
-/// The version in its wrapper at the first place, absent where another element stands; and the number of the next place.
+/// The version in its wrapper at a place, absent where another element stands; the place behind it, and its mark.
 #[inline(always)]
 #[tactic(auto, unfolding(crate::specs::ExplicitVersion::explicit_version), using(x509_der::proofs::Marking::marks_of_readers))]
-pub(crate) fn read_version<'a, const N: usize>(
+pub(crate) fn read_version<'a>(
     tries: &mut Tries,
-    children: &Elements<'a, N>,
-) -> Result<(usize, Option<X509Version>, bool), Err<X509Error>>
-    requires { 0 < N }
-    ensures reads { Gives (λ x. (place_at (window_of children.now) x.0, option_view (λ v. v.0) x.1)) result (explicit_version.read (window_of children.now)) }
-    ensures marks { IfOk result (λ x. x.2 ≡ explicit_version.marks (window_of children.now)) }
+    place: &Place<'a>,
+) -> Result<(Place<'a>, Option<X509Version>, bool), Err<X509Error>>
+    ensures reads { Gives (λ x. (at x.0, option_view (λ v. v.0) x.1)) result (explicit_version.read (at place.now)) }
+    ensures marks { IfOk result (λ x. x.2 ≡ explicit_version.marks (at place.now)) }
     ensures grows { tries.old ≤ tries.new }
-    ensures count { tries.new ≤ tries.old + (8 * length (window_of children.now) - 8) }
-    ensures few_tries { tries.new ≤ tries.old + 1 }
-    ensures next { IfOk result (λ x. IsNext (count_of children.now) 0 x.0 (length (window_of children.now)) (length (place_at (window_of children.now) x.0)) x.1) }
-    ensures least { IfOk result (λ x. AddsAtLeast (option_heads (λ _. 1) (option_view (λ v. v.0) x.1)) tries.old tries.new) }
+    ensures few_tries { IfErr result (λ _. tries.new ≤ tries.old + (8 * length (at place.now) - 8)) }
+    ensures count { IfOk result (λ x. tries.new + length (at x.0) ≤ tries.old + length (at place.now)) }
+    ensures least { IfOk result (λ x. AddsAtLeast (option_heads (λ _. 2) (option_view (λ v. v.0) x.1) + min 1 (length (at x.0)) - min 1 (length (at place.now))) tries.old tries.new) }
 {
-    let place = children.at(0);
     if place.bytes().is_empty() {
-        return Ok((0, None, true));
+        return Ok((*place, None, true));
     }
     let any = place.any_loose().map_err(|e| e.convert())?;
     match any.header() {
@@ -78,8 +74,8 @@ pub(crate) fn read_version<'a, const N: usize>(
             tag: Tag(0),
             ..
         } => {}
-        _ => return Ok((0, None, true)),
+        _ => return Ok((*place, None, true)),
     }
-    let (version, plain) = read_wrapped_version(tries, &place)?;
-    Ok((1, Some(version), plain))
+    let (version, plain) = read_wrapped_version(tries, place)?;
+    Ok((place.next(tries), Some(version), plain))
 }

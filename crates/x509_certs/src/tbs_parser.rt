@@ -14,7 +14,7 @@ use crate::basic_fields::read_basic_fields;
 use crate::tbs_certificate::TbsCertificate;
 use crate::unique_identifier::{read_issuer_uid, read_subject_uid};
 use std::alloc::Global;
-use x509_der::{Elements, Err, Place, Tries, UnsignedBytes};
+use x509_der::{Err, Place, Tries, UnsignedBytes};
 use x509_extensions::X509ExtensionParser;
 use x509_fields::{X509Error, X509Result, X509Version, sequence_at};
 
@@ -153,16 +153,15 @@ impl TbsCertificateParser {
         ensures shallow { looks_at_values self.now ≡ false → IfOk result (λ x. tries.new + 9 + 8 * value_bytes ((tbs_of x.0).extensions) + 8 * length (behind (at place.now)) ≤ tries.old + 8 * length (at place.now)) }
     {
         let contents = sequence_at(place)?;
-        let children: Elements<'_, 10> = Elements::cut(tries, contents);
-        let (k, basic, basic_plain) = match read_basic_fields(alloc, tries, &children) {
-            Ok((k, basic, plain)) => (k, basic, plain),
+        let (behind, basic, basic_plain) = match read_basic_fields(alloc, tries, contents) {
+            Ok((behind, basic, plain)) => (behind, basic, plain),
             Err(e) => return Err(e),
         };
-        let (k, issuer_uid) = read_issuer_uid(&children, k)?;
-        let (k, subject_uid) = read_subject_uid(&children, k)?;
+        let (behind, issuer_uid) = read_issuer_uid(tries, &behind)?;
+        let (behind, subject_uid) = read_subject_uid(tries, &behind)?;
         let (extensions, extensions_plain) = self
             .extension_parser
-            .read_wrapped_at(alloc, tries, 3, &children.at(k))?;
+            .read_wrapped_at(alloc, tries, 3, &behind)?;
         let bytes = place.bytes();
         let tbs = TbsCertificate {
             version: basic.version.unwrap_or(X509Version::V1),

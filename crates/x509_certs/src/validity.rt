@@ -93,6 +93,7 @@ impl<'a> FromDer<'a, X509Error> for Validity {
 
     ghost takes_memory = { false };
 
+    #[inline(always)]
     #[tactic(auto, unfolding(crate::specs::Validity::validity), using(x509_der::proofs::Marking::marks_of_readers))]
     fn read_at(
         alloc: Global,

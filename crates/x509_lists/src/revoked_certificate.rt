@@ -9,10 +9,10 @@ ghost use Rattle.x509_extensions.specs.ExtensionList.{extensions_left};
 ghost use Rattle.x509_lists.specs.RevokedCertificate.{Revoked, revoked_of, revoked, revoked_heads, revoked_laws};
 
 use std::alloc::Global;
-use x509_der::{Elements, Err, FromDer, Place, Sequence, Tries, UnsignedBytes, field_at, soft_at};
+use x509_der::{Err, FromDer, Place, Sequence, Tries, UnsignedBytes};
 use x509_extensions::{ExtensionIter, ExtensionSequence, X509Extension};
 use x509_fields::{ASN1Time, TryClone, X509Error, format_serial, sequence_at};
-use x509_signed::read_serial;
+use x509_signed::{read_field, read_serial, read_soft_field};
 
 /// A certificate that was revoked (RFC 5280, section 5.1.2.6).
 ///
@@ -95,6 +95,7 @@ impl<'a> FromDer<'a, X509Error> for RevokedCertificate<'a> {
 
     ghost takes_memory = { true };
 
+    #[inline(always)]
     #[tactic(auto, unfolding(crate::specs::RevokedCertificate::revoked), using(x509_der::proofs::Marking::marks_of_readers))]
     fn read_at(
         alloc: Global,
@@ -102,13 +103,13 @@ impl<'a> FromDer<'a, X509Error> for RevokedCertificate<'a> {
         place: &Place<'a>,
     ) -> Result<(Self, bool), Err<X509Error>> {
         let contents = sequence_at(place)?;
-        let children: Elements<'_, 3> = Elements::cut(tries, contents);
-        let (k, raw_serial, serial_plain) = read_serial(&children, 0)?;
-        let (k, revocation_date, date_plain) = match field_at(alloc, tries, &children, k) {
-            Ok((k, date, plain)) => (k, date, plain),
+        let first = Place::look(tries, contents);
+        let (second, raw_serial, serial_plain) = read_serial(tries, &first)?;
+        let (third, revocation_date, date_plain) = match read_field(alloc, tries, &second) {
+            Ok((third, date, plain)) => (third, date, plain),
             Err(e) => return Err(e),
         };
-        let (k, sequence, extensions_plain) = soft_at(alloc, tries, &children, k)?;
+        let (last, sequence, extensions_plain) = read_soft_field(alloc, tries, &third)?;
         let extensions = match sequence {
             Some(ExtensionSequence { list }) => list,
             None => Sequence::new(alloc),
@@ -120,7 +121,7 @@ impl<'a> FromDer<'a, X509Error> for RevokedCertificate<'a> {
             raw_serial,
         };
         let plain = serial_plain & (date_plain & extensions_plain);
-        Ok((revoked, plain & children.at(k).bytes().is_empty()))
+        Ok((revoked, plain & last.bytes().is_empty()))
     }
 
     ghost never_memory = { revoked_laws.laws.never_memory };

@@ -1,14 +1,13 @@
 //! The serial number (RFC 5280, section 4.1.2.2).
 
-ghost use Rattle.std.specs.Prelude.{◌≡◌, ◌<◌, ◌≤◌, ◌+◌, ◌-◌, ◌&&◌, true, IfOk, length};
-ghost use Rattle.x509_der.specs.Children.{window_of, count_of};
-ghost use Rattle.x509_der.specs.Looks.{behind, is_element, place_at};
+ghost use Rattle.std.specs.Prelude.{◌≡◌, ◌≤◌, ◌+◌, ◌&&◌, true, IfOk, length};
+ghost use Rattle.x509_der.specs.Looks.{behind, is_element};
 ghost use Rattle.x509_der.specs.Place.{at};
 ghost use Rattle.x509_der.specs.Primitives.{is_primitive};
 ghost use Rattle.x509_der.specs.Reading.{Gives, strict};
 ghost use Rattle.x509_signed.specs.Serial.{serial, are_fewest};
 
-use x509_der::{Class, Elements, Err, Header, Place, Tag};
+use x509_der::{Class, Err, Header, Place, Tag};
 use x509_fields::X509Error;
 
 /// The contents of a serial: any element of number 2, whatever its class, form, length octets and contents.
@@ -28,22 +27,6 @@ pub fn serial_at<'a>(place: &Place<'a>) -> Result<(&'a [u8], bool), Err<X509Erro
     }
     let plain = strict && is_plain_integer(any.header(), any.as_bytes());
     Ok((any.as_bytes(), plain))
-}
-
-/// The contents of the serial at this place, and the number of the next place.
-#[inline(always)]
-pub fn read_serial<'a, const N: usize>(
-    children: &Elements<'a, N>,
-    k: usize,
-) -> Result<(usize, &'a [u8], bool), Err<X509Error>>
-    requires { k < N }
-    ensures reads { Gives (λ x. (place_at (window_of children.now) x.0, x.1.now)) result (serial.read (place_at (window_of children.now) k)) }
-    ensures marks { IfOk result (λ x. x.2 ≡ serial.marks (place_at (window_of children.now) k)) }
-    ensures next { IfOk result (λ x. (x.0 ≡ k + 1) × (x.0 ≤ count_of children.now)) }
-    ensures sizes { IfOk result (λ x. length (place_at (window_of children.now) x.0) + 2 ≤ length (place_at (window_of children.now) k)) }
-{
-    let (contents, plain) = serial_at(&children.at(k))?;
-    Ok((k + 1, contents, plain))
 }
 
 // Whether an element of these contents is an INTEGER in the fewest octets.

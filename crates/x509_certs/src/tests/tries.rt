@@ -94,45 +94,45 @@ fn at_the_first_header(rt: HostRuntime) {
     }
 }
 
-/// The certificate's header, its three fields, and the ten of its signed part are looked at before any of these is
-/// read: 14. Then come, in this order, 1 of the version, 2 of the algorithm, 4 of the issuer, 2 of the times, 4 of the
-/// subject, 4 of the key, 8 of the extensions, 2 of the outer algorithm. A header that cannot be read ends the look.
+/// The certificate's header and its three fields are looked at first: 4. Each of the ten fields of its signed part is looked at
+/// once the one before it is read, 10 in all. Inside them come, in this order, 1 of the version, 2 of the algorithm, 4 of the
+/// issuer, 2 of the times, 4 of the subject, 4 of the key, 8 of the extensions; then 2 of the outer algorithm.
 const REFUSED: [(Field, &[u8], Err<X509Error>, u128); 30] = [
-    (Field::Version, b"\xA0\x03\x02\x01\xFF", BAD_VERSION, 15),
-    (Field::Version, b"\x80\x03\x02\x01\x02", BAD_VERSION, 14),
-    (Field::Version, b"\xA0\x00", BAD_VERSION, 14),
-    (Field::Version, b"\xA0\x81\x03\x02\x01\x02", BAD_LENGTH, 14),
+    (Field::Version, b"\xA0\x03\x02\x01\xFF", BAD_VERSION, 6),
+    (Field::Version, b"\x80\x03\x02\x01\x02", BAD_VERSION, 5),
+    (Field::Version, b"\xA0\x00", BAD_VERSION, 5),
+    (Field::Version, b"\xA0\x81\x03\x02\x01\x02", BAD_LENGTH, 5),
     (Field::Version, b"\x1F\x1E", BAD_TAG, 5),
-    (Field::Serial, b"\x05\x00", BAD_SERIAL, 15),
+    (Field::Serial, b"\x05\x00", BAD_SERIAL, 7),
     (Field::Serial, b"\x1F\x1E", BAD_SERIAL, 7),
-    (Field::Signature, b"\x31\x00", BAD_TAG, 15),
-    (Field::Signature, b"\x30\x00", BAD_ALGORITHM, 15),
-    (Field::Signature, b"\x30\x03\x02\x01\x2A", BAD_ALGORITHM, 16),
-    (Field::Issuer, b"\x31\x00", BAD_TAG, 17),
-    (Field::Validity, b"\x30\x00", BAD_DATE, 21),
+    (Field::Signature, b"\x31\x00", BAD_TAG, 8),
+    (Field::Signature, b"\x30\x00", BAD_ALGORITHM, 8),
+    (Field::Signature, b"\x30\x03\x02\x01\x2A", BAD_ALGORITHM, 9),
+    (Field::Issuer, b"\x31\x00", BAD_TAG, 11),
+    (Field::Validity, b"\x30\x00", BAD_DATE, 16),
     (
         Field::Validity,
         b"\x30\x0F\x17\x0D700101000000Z",
         BAD_DATE,
-        22,
+        17,
     ),
     (
         Field::Validity,
         b"\x30\x1E\x17\x0D700101000000Z\x17\x0D491231235960Z",
         BAD_DATE,
-        23,
+        18,
     ),
-    (Field::Subject, b"\x02\x00", BAD_TAG, 23),
+    (Field::Subject, b"\x02\x00", BAD_TAG, 19),
     (
         Field::Key,
         b"\x30\x07\x30\x05\x06\x01\x2A\x05\x00",
         BAD_KEY,
-        30,
+        27,
     ),
-    (Field::Key, b"\x30\x05\x31\x00\x03\x01\x00", BAD_TAG, 29),
-    (Field::IssuerUid, b"\x81\x01\x05", BAD_ISSUER_UID, 31),
+    (Field::Key, b"\x30\x05\x31\x00\x03\x01\x00", BAD_TAG, 26),
+    (Field::IssuerUid, b"\x81\x01\x05", BAD_ISSUER_UID, 29),
     (Field::IssuerUid, b"\x1F\x1E", BAD_ISSUER_UID, 29),
-    (Field::SubjectUid, b"\x82\x01\x05", BAD_SUBJECT_UID, 31),
+    (Field::SubjectUid, b"\x82\x01\x05", BAD_SUBJECT_UID, 30),
     (Field::SubjectUid, b"\x1F\x1E", BAD_SUBJECT_UID, 30),
     (Field::Extensions, b"\xA4\x00", BAD_EXTENSIONS, 31),
     (Field::Extensions, b"\x1F\x1E", BAD_EXTENSIONS, 31),
@@ -143,12 +143,12 @@ const REFUSED: [(Field, &[u8], Err<X509Error>, u128); 30] = [
         EARLY_END,
         33,
     ),
-    // an eleventh element of the signed part is looked at
+    // an eleventh element of the signed part isn't looked at
     (
         Field::Extensions,
         b"\xA3\x02\x30\x00\x05\x00",
         EARLY_END,
-        33,
+        32,
     ),
     (Field::Algorithm, b"\x31\x00", BAD_TAG, 39),
     (Field::Algorithm, b"\x30\x00", BAD_ALGORITHM, 39),
