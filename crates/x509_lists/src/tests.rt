@@ -1,6 +1,5 @@
 //! Lists, their signed parts and their entries.
 
-mod changed_bytes;
 mod copies;
 mod entries;
 mod fixtures;

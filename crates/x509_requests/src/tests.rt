@@ -1,7 +1,6 @@
 //! Certification requests and their attributes.
 
 mod attributes;
-mod changed_bytes;
 mod copies;
 mod fixtures;
 mod look_ups;

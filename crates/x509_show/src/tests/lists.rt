@@ -9,7 +9,7 @@ const NONE_REVOKED: &str =
     "version: none\nsignature: 1.2\nissuer: \nthis update: Jan  1 00:00:00 1970 +00:00\n\
     next update: none\ntbs: 24\nrest: 0\n";
 
-const ONE_REVOKED: &str =
+pub const ONE_REVOKED: &str =
     "version: none\nsignature: 1.2\nissuer: \nthis update: Jan  1 00:00:00 1970 +00:00\n\
     next update: none\nrevoked: 2a Jan  1 00:00:00 1970 +00:00\ntbs: 46\nrest: 0\n";
 
