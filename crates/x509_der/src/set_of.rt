@@ -1,6 +1,6 @@
 //! Members of sets, of which one alone takes no memory.
 
-ghost use Rattle.std.specs.Prelude.{◌≡◌, ◌≤◌, ◌+◌, ◌*◌, ◌∷◌, true, map, length, sum_by, IfOk};
+ghost use Rattle.std.specs.Prelude.{◌≡◌, ◌≤◌, ◌+◌, ◌*◌, ◌∷◌, [], true, map, length, sum_by, IfOk, IfErr, IsOk};
 ghost use Rattle.x509_der.specs.Plan.{run1};
 ghost use Rattle.x509_der.specs.Reading.{AddsAtLeast};
 ghost use Rattle.x509_der.specs.Promises.{Answers, IsForeign, empty_run};
@@ -77,7 +77,9 @@ impl<T: Drop> SetOf<T> {
     ///
     /// The first member where memory is wanting, which it never is for one member alone.
     pub fn with_first(first: T, others: Sequence<T>) -> Result<Self, AllocFailed<T>>
-        ensures { IfOk result (λ set. set ≡ first ∷ others) }
+        ensures members { IfOk result (λ set. set ≡ first ∷ others) }
+        ensures alone { others ≡ [] → IsOk result }
+        ensures refused { IfErr result (λ e. e.value ≡ first) }
     {
         if others.is_empty() {
             return Ok(SetOf {

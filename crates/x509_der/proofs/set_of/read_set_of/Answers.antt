@@ -12,7 +12,7 @@ returns-in-Err-clause-reads g c =
 
 pub returns-in-Ok-with_first-clause-reads : goal.returns-in-Ok-with_first-clause-reads
 returns-in-Ok-with_first-clause-reads g c =
-    rw c.in-Ok-with_first.ensures (first_and_others (empty_run g.E.ReadError.of_list) g.T.FromDer.plan g.T.FromDer.laws.is_local c.args.i.now _ _ _ _ (λ k. omega (arith, c.type_inv.i k)) c.in-Ok.ensures.reads c.in_ok-rest.ensures.reads)
+    rw c.in-Ok-with_first.ensures.members (first_and_others (empty_run g.E.ReadError.of_list) g.T.FromDer.plan g.T.FromDer.laws.is_local c.args.i.now _ _ _ _ (λ k. omega (arith, c.type_inv.i k)) c.in-Ok.ensures.reads c.in_ok-rest.ensures.reads)
 
 pub returns-in-Ok-with_first-clause-marks : goal.returns-in-Ok-with_first-clause-marks
 returns-in-Ok-with_first-clause-marks g c =
