@@ -13,7 +13,7 @@ ghost use Rattle.x509_certs.specs.Certificate.{is_deep, is_strict, certificate_o
 use crate::certificate::X509Certificate;
 use crate::tbs_parser::TbsCertificateParser;
 use std::alloc::Global;
-use x509_der::{Err, FromDer, Place, Three, Tries};
+use x509_der::{Err, FromDer, Place, Tries};
 use x509_fields::{AlgorithmIdentifier, X509Error, X509Result, sequence_at};
 use x509_signed::signature_value_at;
 
@@ -103,12 +103,13 @@ impl X509CertificateParser {
         ensures tries { TriesBounded strict (is_constructed 16) certificate_heads (λ x. (x.0.now, certificate_of x.1)) i.now tries.old tries.new result }
         ensures shallow { is_deep self.now ≡ false → IfOk result (λ x. tries.new + 8 + 8 * value_bytes ((certificate_of x.1).tbs.extensions) + 8 * length x.0.now ≤ tries.old + 8 * length i.now) }
     {
-        match self.read_marked(alloc, tries, i) {
-            Ok((rest, certificate, plain)) => {
+        let place = Place::look(tries, i);
+        match self.read_at(alloc, tries, &place) {
+            Ok((certificate, plain)) => {
                 if self.strict && !plain {
                     return Err(Err::Error(X509Error::Generic));
                 }
-                Ok((rest, certificate))
+                Ok((place.rest(), certificate))
             }
             Err(e) => Err(e),
         }
@@ -152,18 +153,16 @@ impl X509CertificateParser {
         ensures shallow { is_deep self.now ≡ false → IfOk result (λ x. tries.new + 9 + 8 * value_bytes ((certificate_of x.0).tbs.extensions) + 8 * length (behind (at place.now)) ≤ tries.old + 8 * length (at place.now)) }
     {
         let contents = sequence_at(place)?;
-        let Three {
-            first,
-            second,
-            third,
-        } = Three::cut(tries, contents);
+        let first = Place::look(tries, contents);
         let (tbs_certificate, tbs_plain) = match self.tbs_parser.read_at(alloc, tries, &first) {
             Ok(read) => read,
             Err(e) => return Err(e),
         };
+        let second = first.next(tries);
         let (signature_algorithm, algorithm_plain) = AlgorithmIdentifier::read_at(
             alloc, tries, &second,
         )?;
+        let third = second.next(tries);
         let signature_value = signature_value_at(&third)?;
         let bytes = place.bytes();
         let certificate = X509Certificate {

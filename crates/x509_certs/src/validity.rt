@@ -10,7 +10,7 @@ ghost use Rattle.x509_certs.specs.Validity.{Period, period_of, period_heads, val
 
 use jiff::SignedDuration;
 use std::alloc::Global;
-use x509_der::{Err, FromDer, Place, Tries, Two};
+use x509_der::{Err, FromDer, Place, Tries};
 use x509_fields::{ASN1Time, Clock, X509Error, sequence_at};
 
 /// The first and the last moment at which a certificate is valid (RFC 5280, section 4.1.2.5).
@@ -101,8 +101,9 @@ impl<'a> FromDer<'a, X509Error> for Validity {
         place: &Place<'a>,
     ) -> Result<(Self, bool), Err<X509Error>> {
         let contents = sequence_at(place)?;
-        let Two { first, second } = Two::cut(tries, contents);
+        let first = Place::look(tries, contents);
         let (not_before, before_plain) = ASN1Time::read_at(alloc, tries, &first)?;
+        let second = first.next(tries);
         let (not_after, after_plain) = ASN1Time::read_at(alloc, tries, &second)?;
         let validity = Validity {
             not_before,

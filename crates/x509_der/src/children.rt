@@ -61,41 +61,6 @@ impl<'a> Two<'a> {
     }
 }
 
-/// The first three elements of a window, each looked at once: the places where they stand, or would stand.
-#[derive(Clone, Copy, Debug)]
-pub struct Three<'a> {
-    pub first: Place<'a>,
-    pub second: Place<'a>,
-    pub third: Place<'a>,
-}
-
-impl<'a> Three<'a> {
-    ghost use Rattle.x509_der.specs.Place.{at};
-
-    /// Looks at one element after the other: one try for each.
-    #[inline(always)]
-    pub fn cut(tries: &mut Tries, window: &'a [u8]) -> Three<'a>
-        ensures first { at result.first ≡ window.now }
-        ensures second { at result.second ≡ behind window.now }
-        ensures third { at result.third ≡ behind (behind window.now) }
-        ensures exact { tries.new ≡ tried_behind (tried_behind (tried tries.old window.now) window.now) (behind window.now) }
-        ensures few { tries.new ≤ tries.old + 3 }
-        ensures grows { tries.old ≤ tries.new }
-        ensures one { is_element (at result.first) ≡ true → AddsAtLeast 1 tries.old tries.new }
-        ensures two { is_element (at result.second) ≡ true → AddsAtLeast 2 tries.old tries.new }
-        ensures three { is_element (at result.third) ≡ true → AddsAtLeast 3 tries.old tries.new }
-    {
-        let first = Place::look(tries, window);
-        let second = first.next(tries);
-        let third = second.next(tries);
-        Three {
-            first,
-            second,
-            third,
-        }
-    }
-}
-
 /// The first elements of a window, at most `N`, each looked at once, and the place behind them.
 #[derive(Debug, Drop)]
 pub struct Elements<'a, const N: usize> {

@@ -25,7 +25,7 @@ mod unsigned;
 pub use any::Any;
 pub use bit_string::BitString;
 pub use child::{Child, Stop};
-pub use children::{Children, Elements, Three, Two};
+pub use children::{Children, Elements, Two};
 pub use error::{BerError, Err, ErrorKind, ReadError};
 pub use from_der::FromDer;
 pub use front::{

@@ -12,7 +12,7 @@ ghost use Rattle.x509_extensions.specs.Extension.{extension_of, extension_heads,
 use crate::extension::X509Extension;
 use crate::parsed::{ParsedExtension, parse_value};
 use std::alloc::Global;
-use x509_der::{Err, Oid, Place, Three, Tries};
+use x509_der::{Err, Oid, Place, Tries};
 use x509_fields::{X509Error, X509Result, sequence_at};
 
 /// Reads extensions, with or without what their values say.
@@ -169,14 +169,11 @@ fn read_envelope_fields<'a>(
     ensures there { IfOk result (λ _. is_element (at place.now) ≡ true) }
 {
     let contents = sequence_at(place)?;
-    let Three {
-        first,
-        second,
-        third,
-    } = Three::cut(tries, contents);
+    let first = Place::look(tries, contents);
     let oid = first.oid().map_err(|e| e.convert())?;
+    let second = first.next(tries);
     let (last, critical, plain) = match second.bool_marked() {
-        Ok((critical, plain)) => (third, critical, plain),
+        Ok((critical, plain)) => (second.next(tries), critical, plain),
         Err(_) => (second, false, true),
     };
     let value = last.octets().map_err(|e| e.convert())?;

@@ -10,7 +10,7 @@ ghost use Rattle.x509_fields.specs.Algorithm.{Algorithm, algorithm_of, algorithm
 use crate::error::X509Error;
 use crate::structure::sequence_at;
 use std::alloc::Global;
-use x509_der::{Any, Err, FromDer, Oid, Place, Tries, Two};
+use x509_der::{Any, Err, FromDer, Oid, Place, Tries};
 
 #[cfg(test)]
 mod tests;
@@ -83,10 +83,11 @@ impl<'a> FromDer<'a, X509Error> for AlgorithmIdentifier<'a> {
         place: &Place<'a>,
     ) -> Result<(Self, bool), Err<X509Error>> {
         let contents = sequence_at(place)?;
-        let Two { first, second } = Two::cut(tries, contents);
+        let first = Place::look(tries, contents);
         let algorithm = first
             .oid()
             .map_err(|_| Err::Error(X509Error::InvalidAlgorithmIdentifier))?;
+        let second = first.next(tries);
         let (tail, parameters) = match second.any() {
             Ok(any) => (second.rest(), Some(any)),
             Err(_) => (second.bytes(), None),

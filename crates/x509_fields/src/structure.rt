@@ -20,7 +20,10 @@ pub fn sequence_at<'a>(place: &Place<'a>) -> Result<&'a [u8], Err<X509Error>>
     ensures sizes { IfOk result (λ x. length (behind (at place.now)) + length x.now + 2 ≤ length (at place.now)) }
     ensures foreign { IsForeign strict (is_constructed 16) (at place.now) → IsErr result }
 {
-    place.sequence().map_err(|e| e.convert())
+    match place.sequence() {
+        Ok(contents) => Ok(contents),
+        Err(e) => Err(e.convert()),
+    }
 }
 
 /// The contents of the SET that stands at a place.
@@ -31,5 +34,8 @@ pub fn set_at<'a>(place: &Place<'a>) -> Result<&'a [u8], Err<X509Error>>
     ensures sizes { IfOk result (λ x. length (behind (at place.now)) + length x.now + 2 ≤ length (at place.now)) }
     ensures foreign { IsForeign strict (is_constructed 17) (at place.now) → IsErr result }
 {
-    place.set().map_err(|e| e.convert())
+    match place.set() {
+        Ok(contents) => Ok(contents),
+        Err(e) => Err(e.convert()),
+    }
 }

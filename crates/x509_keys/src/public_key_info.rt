@@ -9,7 +9,7 @@ ghost use Rattle.x509_keys.specs.PublicKey.{ParsesKeyIn, key_in, public_key_of};
 
 use crate::public_key::{PublicKey, parse_key};
 use std::alloc::Global;
-use x509_der::{BitString, Err, FromDer, Place, Tries, Two};
+use x509_der::{BitString, Err, FromDer, Place, Tries};
 use x509_fields::{AlgorithmIdentifier, X509Error, sequence_at};
 
 /// A public key and its algorithm (RFC 5280, section 4.1.2.7).
@@ -75,8 +75,9 @@ impl<'a> FromDer<'a, X509Error> for SubjectPublicKeyInfo<'a> {
         place: &Place<'a>,
     ) -> Result<(Self, bool), Err<X509Error>> {
         let contents = sequence_at(place)?;
-        let Two { first, second } = Two::cut(tries, contents);
+        let first = Place::look(tries, contents);
         let (algorithm, plain) = AlgorithmIdentifier::read_at(alloc, tries, &first)?;
+        let second = first.next(tries);
         let subject_public_key = second
             .bits()
             .map_err(|_| Err::Error(X509Error::InvalidSPKI))?;

@@ -10,7 +10,7 @@ ghost use Rattle.x509_fields.specs.Errors.{is_x509_memory};
 ghost use Rattle.x509_signed.specs.Signed.{signed_of, signed_heads, signature_value, signed};
 
 use std::alloc::Global;
-use x509_der::{BitString, Err, FromDer, Place, Three, Tries};
+use x509_der::{BitString, Err, FromDer, Place, Tries};
 use x509_fields::{AlgorithmIdentifier, X509Error, sequence_at};
 
 /// A part that is signed, the algorithm of the signature and its bits.
@@ -50,18 +50,16 @@ pub fn read_signed<'a, T: FromDer<'a, X509Error> + Drop>(
     ensures there { IfOk result (λ _. is_element (at place.now) ≡ true) }
 {
     let contents = sequence_at(place)?;
-    let Three {
-        first,
-        second,
-        third,
-    } = Three::cut(tries, contents);
+    let first = Place::look(tries, contents);
     let (tbs, tbs_plain) = match T::read_at(alloc, tries, &first) {
         Ok(read) => read,
         Err(e) => return Err(e),
     };
+    let second = first.next(tries);
     let (signature_algorithm, algorithm_plain) = AlgorithmIdentifier::read_at(
         alloc, tries, &second,
     )?;
+    let third = second.next(tries);
     let signature_value = signature_value_at(&third)?;
     let bytes = place.bytes();
     let signed = Signed {

@@ -46,10 +46,11 @@ fn read_zone(bytes: &[u8]) -> Option<i16>
     ensures value { result ≡ zone bytes.now }
     ensures in_day { IfSome result IsOffset }
 {
-    if bytes == b"Z".as_slice() {
-        return Some(0);
-    }
-    let (sign, digits) = bytes.split_first()?;
+    let (sign, digits) = match bytes {
+        [b'Z'] => return Some(0),
+        [sign, digits @ ..] => (sign, digits),
+        [] => return None,
+    };
     let (hours, rest) = read_pair(digits)?;
     let (minutes, rest) = read_pair(rest)?;
     if !rest.is_empty() || hours >= 24 || minutes >= 60 {
@@ -102,6 +103,7 @@ fn real_moment(
 /// The time that the contents of a UTCTime say: `YYMMDDhhmm`, seconds or none, and `Z` or an offset `+hhmm` or `-hhmm`.
 /// Years from 50 on are of the twentieth century. None where the octets are no such time, or there is no such date or
 /// time of day.
+#[inline(always)]
 #[tactic(auto, unfolding(crate::specs::Octets::utc_moment))]
 pub fn utc_time(bytes: &[u8]) -> Option<OffsetDateTime>
     ensures value { option_map moment_of result ≡ utc_moment bytes.now }

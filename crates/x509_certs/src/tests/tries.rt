@@ -94,64 +94,64 @@ fn at_the_first_header(rt: HostRuntime) {
     }
 }
 
-/// The certificate's header and its three fields are looked at first: 4. Each of the ten fields of its signed part is looked at
+/// The headers of the certificate and of its signed part are looked at first: 2. Each of the ten fields of that part is looked at
 /// once the one before it is read, 10 in all. Inside them come, in this order, 1 of the version, 2 of the algorithm, 4 of the
-/// issuer, 2 of the times, 4 of the subject, 4 of the key, 8 of the extensions; then 2 of the outer algorithm.
+/// issuer, 2 of the times, 4 of the subject, 4 of the key, 8 of the extensions; then 3 of the outer algorithm, and 1 of the bits.
 const REFUSED: [(Field, &[u8], Err<X509Error>, u128); 30] = [
-    (Field::Version, b"\xA0\x03\x02\x01\xFF", BAD_VERSION, 6),
-    (Field::Version, b"\x80\x03\x02\x01\x02", BAD_VERSION, 5),
-    (Field::Version, b"\xA0\x00", BAD_VERSION, 5),
-    (Field::Version, b"\xA0\x81\x03\x02\x01\x02", BAD_LENGTH, 5),
-    (Field::Version, b"\x1F\x1E", BAD_TAG, 5),
-    (Field::Serial, b"\x05\x00", BAD_SERIAL, 7),
-    (Field::Serial, b"\x1F\x1E", BAD_SERIAL, 7),
-    (Field::Signature, b"\x31\x00", BAD_TAG, 8),
-    (Field::Signature, b"\x30\x00", BAD_ALGORITHM, 8),
-    (Field::Signature, b"\x30\x03\x02\x01\x2A", BAD_ALGORITHM, 9),
-    (Field::Issuer, b"\x31\x00", BAD_TAG, 11),
-    (Field::Validity, b"\x30\x00", BAD_DATE, 16),
+    (Field::Version, b"\xA0\x03\x02\x01\xFF", BAD_VERSION, 4),
+    (Field::Version, b"\x80\x03\x02\x01\x02", BAD_VERSION, 3),
+    (Field::Version, b"\xA0\x00", BAD_VERSION, 3),
+    (Field::Version, b"\xA0\x81\x03\x02\x01\x02", BAD_LENGTH, 3),
+    (Field::Version, b"\x1F\x1E", BAD_TAG, 3),
+    (Field::Serial, b"\x05\x00", BAD_SERIAL, 5),
+    (Field::Serial, b"\x1F\x1E", BAD_SERIAL, 5),
+    (Field::Signature, b"\x31\x00", BAD_TAG, 6),
+    (Field::Signature, b"\x30\x00", BAD_ALGORITHM, 6),
+    (Field::Signature, b"\x30\x03\x02\x01\x2A", BAD_ALGORITHM, 7),
+    (Field::Issuer, b"\x31\x00", BAD_TAG, 9),
+    (Field::Validity, b"\x30\x00", BAD_DATE, 14),
     (
         Field::Validity,
         b"\x30\x0F\x17\x0D700101000000Z",
         BAD_DATE,
-        17,
+        15,
     ),
     (
         Field::Validity,
         b"\x30\x1E\x17\x0D700101000000Z\x17\x0D491231235960Z",
         BAD_DATE,
-        18,
+        16,
     ),
-    (Field::Subject, b"\x02\x00", BAD_TAG, 19),
+    (Field::Subject, b"\x02\x00", BAD_TAG, 17),
     (
         Field::Key,
         b"\x30\x07\x30\x05\x06\x01\x2A\x05\x00",
         BAD_KEY,
-        27,
+        25,
     ),
-    (Field::Key, b"\x30\x05\x31\x00\x03\x01\x00", BAD_TAG, 26),
-    (Field::IssuerUid, b"\x81\x01\x05", BAD_ISSUER_UID, 29),
-    (Field::IssuerUid, b"\x1F\x1E", BAD_ISSUER_UID, 29),
-    (Field::SubjectUid, b"\x82\x01\x05", BAD_SUBJECT_UID, 30),
-    (Field::SubjectUid, b"\x1F\x1E", BAD_SUBJECT_UID, 30),
-    (Field::Extensions, b"\xA4\x00", BAD_EXTENSIONS, 31),
-    (Field::Extensions, b"\x1F\x1E", BAD_EXTENSIONS, 31),
-    (Field::Extensions, b"\xA3\x02\x31\x00", BAD_TAG, 32),
+    (Field::Key, b"\x30\x05\x31\x00\x03\x01\x00", BAD_TAG, 23),
+    (Field::IssuerUid, b"\x81\x01\x05", BAD_ISSUER_UID, 27),
+    (Field::IssuerUid, b"\x1F\x1E", BAD_ISSUER_UID, 27),
+    (Field::SubjectUid, b"\x82\x01\x05", BAD_SUBJECT_UID, 28),
+    (Field::SubjectUid, b"\x1F\x1E", BAD_SUBJECT_UID, 28),
+    (Field::Extensions, b"\xA4\x00", BAD_EXTENSIONS, 29),
+    (Field::Extensions, b"\x1F\x1E", BAD_EXTENSIONS, 29),
+    (Field::Extensions, b"\xA3\x02\x31\x00", BAD_TAG, 30),
     (
         Field::Extensions,
         b"\xA3\x04\x30\x02\x05\x00",
         EARLY_END,
-        33,
+        31,
     ),
     // an eleventh element of the signed part isn't looked at
     (
         Field::Extensions,
         b"\xA3\x02\x30\x00\x05\x00",
         EARLY_END,
-        32,
+        30,
     ),
-    (Field::Algorithm, b"\x31\x00", BAD_TAG, 39),
-    (Field::Algorithm, b"\x30\x00", BAD_ALGORITHM, 39),
+    (Field::Algorithm, b"\x31\x00", BAD_TAG, 38),
+    (Field::Algorithm, b"\x30\x00", BAD_ALGORITHM, 38),
     (Field::Bits, b"\x03\x01\x01", BAD_BITS, 41),
     (Field::Bits, b"", BAD_BITS, 40),
 ];
@@ -195,7 +195,7 @@ const BAD_ALGORITHMS: [(&[u8], Err<X509Error>, u128); 6] = [
     ),
     (b"\x30\x00", BAD_ALGORITHM, 1),
     (b"\x30\x02\x06\x7F", BAD_ALGORITHM, 2),
-    (b"\x30\x05\x02\x01\x2A\x05\x00", BAD_ALGORITHM, 3),
+    (b"\x30\x05\x02\x01\x2A\x05\x00", BAD_ALGORITHM, 2),
 ];
 
 #[test]

@@ -1,4 +1,4 @@
-use super::{Children, Elements, Three, Two};
+use super::{Children, Elements, Two};
 use crate::{BerError, Child, Class, Header, Stop, Tag, Tries};
 
 /// The header of an element of a universal, primitive type.
@@ -112,8 +112,8 @@ fn places_of_elements(rt: HostRuntime) {
 }
 
 #[test]
-fn two_and_three(rt: HostRuntime) {
-    // the window, what is left at each of three places, and how many headers two and three places look at
+fn two_and_the_next(rt: HostRuntime) {
+    // the window, what is left at each of three places, and how many headers the first two and all three look at
     let windows: [(&[u8], [usize; 3], u128, u128); 6] = [
         (b"", [0, 0, 0], 0, 0),
         (b"\x05\x00", [2, 0, 0], 1, 1),
@@ -129,11 +129,8 @@ fn two_and_three(rt: HostRuntime) {
         assert_eq!(rt; two.first.bytes().len(), first, "at {window:?}");
         assert_eq!(rt; two.second.bytes().len(), second, "at {window:?}");
         assert_eq!(rt; tries.count(), looks_of_two, "at {window:?}");
-        let mut tries = Tries::new();
-        let three = Three::cut(&mut tries, window);
-        assert_eq!(rt; three.first.bytes().len(), first, "at {window:?}");
-        assert_eq!(rt; three.second.bytes().len(), second, "at {window:?}");
-        assert_eq!(rt; three.third.bytes().len(), third, "at {window:?}");
+        let next = two.second.next(&mut tries);
+        assert_eq!(rt; next.bytes().len(), third, "at {window:?}");
         assert_eq!(rt; tries.count(), looks_of_three, "at {window:?}");
     }
 }

@@ -1,8 +1,18 @@
-use Rattle.std.proofs.Common.{List, ℕ, false, Err, refl, arith}
-use Rattle.x509_certs.specs.Certificate.{Certificate, is_deep}
-use Rattle.x509_certs.proofs.Stands.{certificate_refused}
+use Rattle.std.proofs.Common.{◌≡◌, List, ℕ, true, false, Err, refl, subst, rules, arith}
+use Rattle.x509_der.specs.Plan.{got}
+use Rattle.x509_der.specs.Promises.{Answers}
+use Rattle.x509_fields.specs.Errors.{is_x509_memory}
+use Rattle.x509_certs.specs.Certificate.{Certificate, is_deep, certificate_of, certificate, certificate_by}
+use Rattle.x509_certs.proofs.Stands.{certificate_stands, certificate_refused}
 use Rattle.x509_certs.proofs.certificate_parser.X509CertificateParser.read.Goals as goal
+
+pub returns-else-self-clause-stands : goal.returns-else-self-clause-stands
+returns-else-self-clause-stands c =
+    let read : (certificate (is_deep c.args.self.now)).read c.args.i.now ≡ got (certificate_of c.in-Ok.certificate) c.rest.result.now = search rules in
+    certificate_stands (is_deep c.args.self.now) c.args.i.now (certificate_of c.in-Ok.certificate) c.rest.result.now (λ k. omega (arith, c.type_inv.i k)) read
 
 pub returns-in-Err-clause-refused_at_any_depth : goal.returns-in-Err-clause-refused_at_any_depth
 returns-in-Err-clause-refused_at_any_depth c = λ loosely.
-    certificate_refused (is_deep c.args.self.now) false (λ (x : List ℕ × Certificate). x) (Err c.in-Err.e) c.args.i.now (λ k. omega (arith, c.type_inv.i k)) c.in-Err.ensures.reads refl
+    let deep = is_deep c.args.self.now in
+    let reads = subst (λ (bytes : List ℕ). Answers is_x509_memory true (λ (x : List ℕ × Certificate). x) (Err c.in-Err.e) ((certificate_by deep false).read bytes)) c.look-place.ensures.bytes c.in-Err.ensures.reads in
+    certificate_refused deep false (λ (x : List ℕ × Certificate). x) (Err c.in-Err.e) c.args.i.now (λ k. omega (arith, c.type_inv.i k)) reads refl
