@@ -103,6 +103,7 @@ impl X509CertificateParser {
         ensures tries { TriesBounded strict (is_constructed 16) certificate_heads (λ x. (x.0.now, certificate_of x.1)) i.now tries.old tries.new result }
         ensures shallow { is_deep self.now ≡ false → IfOk result (λ x. tries.new + 8 + 8 * value_bytes ((certificate_of x.1).tbs.extensions) + 8 * length x.0.now ≤ tries.old + 8 * length i.now) }
     {
+        // not over `read_marked`: each layer that a certificate passes through costs time
         let place = Place::look(tries, i);
         match self.read_at(alloc, tries, &place) {
             Ok((certificate, plain)) => {
