@@ -71,6 +71,7 @@ impl X509ExtensionParser {
 
     /// The same at a place that was looked at.
     #[tactic(auto, unfolding(crate::specs::ExtensionList::wrapped_extensions, crate::specs::ExtensionList::wrapped), using(x509_der::proofs::Marking::marks_of_readers))]
+    #[inline(always)]
     pub fn read_wrapped_at<'a>(
         &self,
         alloc: Global,

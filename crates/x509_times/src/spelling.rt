@@ -7,7 +7,7 @@ ghost use Rattle.x509_times.specs.Spelling.{SpellsUtc, SpellsGeneralized};
 ghost use Rattle.x509_times.specs.OffsetDateTimes.{moment_of};
 
 use crate::offset_date_time::OffsetDateTime;
-use jiff::civil::DateTime;
+use jiff::civil::{Date, DateTime, Time};
 
 // A number of two decimal digits, and the octets behind it.
 #[inline(always)]
@@ -85,17 +85,12 @@ fn real_moment(
     ensures { option_map moment_of result
         ≡ if_real (record { year = pos year; month = month; day = day; hour = hour; minute = minute; second = second; nanosecond = 0; offset = offset }) }
 {
-    let civil = DateTime::new(
-        year as i16,
-        month as i8,
-        day as i8,
-        hour as i8,
-        minute as i8,
-        second as i8,
-        0,
-    );
-    match civil {
-        Ok(civil) => Some(OffsetDateTime::at(civil, offset)),
+    let date = match Date::new(year as i16, month as i8, day as i8) {
+        Ok(date) => date,
+        Err(_) => return None,
+    };
+    match Time::new(hour as i8, minute as i8, second as i8, 0) {
+        Ok(time) => Some(OffsetDateTime::at(DateTime::from_parts(date, time), offset)),
         Err(_) => None,
     }
 }
