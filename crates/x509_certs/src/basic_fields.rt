@@ -10,8 +10,8 @@ ghost use Rattle.x509_certs.specs.BasicFields.{basic_fields_of, basic_fields_hea
 use crate::explicit_version::read_version;
 use crate::validity::Validity;
 use std::alloc::Global;
-use x509_der::{Err, Place, Tries};
-use x509_fields::{AlgorithmIdentifier, X509Error, X509Name, X509Version};
+use x509_der::{Err, FromDer, Place, Tries};
+use x509_fields::{ASN1Time, AlgorithmIdentifier, X509Error, X509Name, X509Version, sequence_at};
 use x509_keys::SubjectPublicKeyInfo;
 use x509_signed::{read_field, read_serial};
 
@@ -27,8 +27,9 @@ pub(crate) struct BasicFields<'a> {
     pub(crate) subject_pki: SubjectPublicKeyInfo<'a>,
 }
 
-/// Reads these fields, in order, at the front of the contents, and gives the place behind them.
-#[tactic(auto, unfolding(crate::specs::BasicFields::basic_fields), using(x509_der::proofs::Marking::marks_of_readers))]
+/// Reads these fields, in order, at the front of the contents, and gives the place behind them. The parts of the validity and of
+/// the key info are read here: their own readers are too large to be inlined, and a call costs as much as a header.
+#[tactic(auto, unfolding(crate::specs::BasicFields::basic_fields, crate::specs::Validity::validity, x509_keys::specs::KeyInfo::key_info), using(x509_der::proofs::Marking::marks_of_readers))]
 pub(crate) fn read_basic_fields<'a>(
     alloc: Global,
     tries: &mut Tries,
@@ -46,12 +47,44 @@ pub(crate) fn read_basic_fields<'a>(
     let (place, raw_serial, serial_plain) = read_serial(tries, &place)?;
     let (place, signature, signature_plain) = read_field(alloc, tries, &place)?;
     let (place, issuer, issuer_plain) = read_field(alloc, tries, &place)?;
-    let (place, validity, validity_plain) = match read_field(alloc, tries, &place) {
-        Ok((place, validity, plain)) => (place, validity, plain),
+    // Validity
+    let times = sequence_at(&place)?;
+    let first = Place::look(tries, times);
+    let (second, not_before, before_plain) = match read_field(alloc, tries, &first) {
+        Ok((second, not_before, plain)) => (second, not_before, plain),
         Err(e) => return Err(e),
     };
+    let (not_after, after_plain) = match ASN1Time::read_at(alloc, tries, &second) {
+        Ok((not_after, plain)) => (not_after, plain),
+        Err(e) => return Err(e),
+    };
+    let validity = Validity {
+        not_before,
+        not_after,
+    };
+    let validity_plain = before_plain & after_plain & second.rest().is_empty();
+    let place = place.next(tries);
+    // Name and SubjectPublicKeyInfo
     let (place, subject, subject_plain) = read_field(alloc, tries, &place)?;
-    let (place, subject_pki, key_plain) = read_field(alloc, tries, &place)?;
+    let parts = sequence_at(&place)?;
+    let first = Place::look(tries, parts);
+    let (second, algorithm, algorithm_plain) = match read_field(alloc, tries, &first) {
+        Ok((second, algorithm, plain)) => (second, algorithm, plain),
+        Err(e) => return Err(e),
+    };
+    let subject_public_key = match second.bits() {
+        Ok(bits) => bits,
+        Err(_) => return Err(Err::Error(X509Error::InvalidSPKI)),
+    };
+    let tail = second.rest();
+    let bytes = place.bytes();
+    let subject_pki = SubjectPublicKeyInfo {
+        algorithm,
+        subject_public_key,
+        raw: &bytes[..bytes.len() - (tail.len() + place.rest().len())],
+    };
+    let key_plain = algorithm_plain & tail.is_empty();
+    let place = place.next(tries);
     let fields = BasicFields {
         version,
         raw_serial,

@@ -1,5 +1,5 @@
 -- What was seen once, for readers of both forms.
-use Rattle.std.proofs.Common.{◌≡◌, ◌∙◌, sym, arith, suc, ◌+◌, ◌-◌, drop, ◌++◌, append_assoc, ◌<◌, ◌≤◌, ℕ, Bool, true, false, zero, length, get_or, slice_index, slice_set, List, Result, Ok, Err, refl, ap, subst, inl, inr}
+use Rattle.std.proofs.Common.{◌≡◌, ◌∙◌, sym, arith, suc, ◌+◌, ◌-◌, ◌/◌, ◌%◌, ◌^◌, ◌==◌, drop, ◌++◌, append_assoc, ◌<◌, ◌≤◌, ℕ, Bool, true, false, zero, length, get_or, slice_index, slice_set, List, Result, Ok, Err, refl, ap, subst, inl, inr}
 use Rattle.std.proofs.lemmas.Bool.{cases_lt}
 use Rattle.std.proofs.lemmas.List.{get_or-set_other, length-append, drop_at}
 use Rattle.std.proofs.lemmas.Grind.{get_or-set_at}
@@ -14,7 +14,7 @@ use Rattle.x509_der.specs.declared.look.Seen.{Seen}
 use Rattle.x509_der.specs.declared.header.Header.{Header}
 use Rattle.x509_der.specs.Reading.{◌>>=◌, Reading, Element, element_at, header_at, fewest, takes_octets, invalid_length}
 use Rattle.x509_der.specs.Elements.{Elem, ElementIs, IsLength}
-use Rattle.x509_der.specs.Looks.{takes, wanted, header_of, behind, is_element, rest_or, is_some_reading, place_at}
+use Rattle.x509_der.specs.Looks.{takes, wanted, header_of, seen_in, behind, is_element, rest_or, is_some_reading, place_at}
 use Rattle.std.specs.Prelude.{IfOk}
 use Rattle.x509_der.specs.Laws.{IsBytes}
 use Rattle.x509_der.specs.Reading.{Gives}
@@ -36,6 +36,24 @@ then_if true r f = refl
 then_if false r f = refl
 
 pub ruleset forms = (takes_fewest, takes_short, then_if)
+
+-- ---- a header in two words
+
+-- what stands behind a header is what is left when its octets are dropped
+pub header_ends : (bytes rest : List ℕ) (h : Header) → IsBytes bytes → header_at Loose bytes ≡ Ok (rest, h) → (drop (length bytes - length rest) bytes ≡ rest) × (length rest < length bytes)
+header_ends bytes rest h fits read =
+    let s = (header_local Loose).sentence bytes h rest fits read in
+    let n : length bytes - length rest ≡ length s.bytes = omega (arith, ap length s.parts, length-append s.bytes rest) in
+    let more : length rest < length bytes = omega (arith, ap length s.parts, length-append s.bytes rest, s.some) in
+    (ap (λ k. drop k bytes) n ∙ ap (drop (length s.bytes)) s.parts ∙ drop_at s.bytes rest (length s.bytes) refl, more)
+
+pub unpacked_is : (s : Seen) (octet numbers size : ℕ) → octet ≡ s.octet → numbers / 2 ^ 32 ≡ s.tag.0 → numbers % 2 ^ 32 ≡ s.length → (size % 2 == 1) ≡ s.fewest → seen_in (record { numbers = numbers; size = size }) octet ≡ s
+unpacked_is s octet numbers size o t l f = rw o (rw t (rw l (rw f refl)))
+
+-- a header that is unpacked as it was seen is wanted as it was seen
+pub packed_wanted : (form : Form) (bytes rest : List ℕ) (s : Seen) (octet numbers size : ℕ) → header_at form bytes ≡ wanted (λ (x : List ℕ × Seen). (x.0, header_of x.1)) (λ x. x.1.fewest) form (Ok (rest, s)) → drop (size / 2) bytes ≡ rest → seen_in (record { numbers = numbers; size = size }) octet ≡ s → header_at form bytes ≡ wanted (λ (s : Seen). (drop (size / 2) bytes, header_of s)) (λ s. s.fewest) form (Ok (seen_in (record { numbers = numbers; size = size }) octet))
+packed_wanted form bytes rest s octet numbers size read ends is =
+    subst (λ (x : Seen). header_at form bytes ≡ wanted (λ (s : Seen). (drop (size / 2) bytes, header_of s)) (λ s. s.fewest) form (Ok x)) (sym is) (rw ends read)
 
 -- ---- an element in one form is that element in any length octets
 

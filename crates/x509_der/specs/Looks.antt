@@ -1,5 +1,5 @@
 -- What one look at the bytes of a place tells the readers of both forms, and the places of a window.
-use Rattle.std.specs.Prelude.{◌≡◌, ℕ, zero, suc, ◌+◌, ◌*◌, ◌≤◌, ◌-◌, Bool, true, false, List, Option, Some, None, Result, Ok, Err, if◌then◌else◌}
+use Rattle.std.specs.Prelude.{◌≡◌, ℕ, zero, suc, ◌+◌, ◌*◌, ◌≤◌, ◌-◌, ◌/◌, ◌%◌, ◌^◌, ◌==◌, Bool, true, false, List, Option, Some, None, Result, Ok, Err, if◌then◌else◌}
 use Rattle.x509_der.specs.declared.error.BerError.{BerError}
 use Rattle.x509_der.specs.declared.error.Err.{Err as Refusal}
 use Rattle.x509_der.specs.declared.error.BerError.TheVariants as kinds
@@ -9,6 +9,7 @@ use Rattle.x509_der.specs.declared.look.Form.{Form}
 use Rattle.x509_der.specs.declared.look.Form.TheVariants.{Strict, Loose}
 use Rattle.x509_der.specs.declared.look.HeaderError.{HeaderError}
 use Rattle.x509_der.specs.declared.look.HeaderError.TheVariants as failures
+use Rattle.x509_der.specs.declared.look.Packed.{Packed}
 use Rattle.x509_der.specs.declared.look.Seen.{Seen}
 use Rattle.x509_der.specs.Reading.{Reading, Element, class_in, constructed_in, element_at, invalid_length, loose, tried}
 
@@ -22,6 +23,10 @@ abbrev pub refusal_of : HeaderError → Refusal BerError
 refusal_of failures.CutShort = Incomplete
 refusal_of failures.InvalidTag = Error kinds.InvalidTag
 refusal_of failures.InvalidLength = Error kinds.InvalidLength
+
+-- what reading gives where octets are no header
+abbrev pub no_header : HeaderError → Reading Header
+no_header why = Err (refusal_of why)
 
 -- what octets spelled is what reading gives
 abbrev pub Spelled : {X Y : Type 0} → (X → Y) → Result X HeaderError → Result Y (Refusal BerError) → Type 0
@@ -41,6 +46,14 @@ header_of s = record { class = class_in s.octet; constructed = constructed_in s.
 abbrev pub found_or : Bool → Seen → HeaderError → Result Seen HeaderError
 found_or true seen why = Ok seen
 found_or false seen why = Err why
+
+-- the header behind this first octet that two words pack
+abbrev pub seen_in : Packed → ℕ → Seen
+seen_in p octet = record { octet = octet; tag = record { 0 = p.numbers / 2 ^ 32 }; length = p.numbers % 2 ^ 32; fewest = p.size % 2 == 1 }
+
+-- why two words pack no header
+abbrev pub failure_in : Packed → HeaderError
+failure_in p = if p.numbers == 0 then failures.CutShort else if p.numbers == 1 then failures.InvalidTag else failures.InvalidLength
 
 -- ---- places
 

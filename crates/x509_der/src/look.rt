@@ -1,10 +1,10 @@
 //! Reading headers.
 
-ghost use Rattle.std.specs.Prelude.{◌≡◌, ◌+◌, length, slice_index, IfOk, ◌==◌, ◌<◌};
+ghost use Rattle.std.specs.Prelude.{◌≡◌, ◌+◌, ◌/◌, ◌^◌, ◌≤◌, length, drop, slice_index, Ok, IfOk, ◌==◌, ◌<◌};
 ghost use Rattle.x509_der.specs.Reading.{class_in, high_number_after, high_number_at, tag_at, u32_in, length_at, long_length_at, header_at, fewest, TriesOnce};
 ghost use Rattle.std.specs.Int.Digits.{number_from_digits};
 ghost use Rattle.x509_der.specs.declared.look.Form.{Form};
-ghost use Rattle.x509_der.specs.Looks.{refusal_of, header_of, Spelled, wanted};
+ghost use Rattle.x509_der.specs.Looks.{refusal_of, no_header, header_of, failure_in, seen_in, Spelled, wanted};
 
 use crate::error::{BerError, Err};
 use crate::header::{Class, Header, Tag};
@@ -182,21 +182,17 @@ fn seen_length(i: &[u8]) -> Result<(&[u8], u32, bool), HeaderError>
     }
 }
 
-/// The header at the front, and whether its length stands in the fewest octets.
+/// The header at the front, whatever its octets, and whether its length stands in the fewest octets.
 #[inline(always)]
 #[tactic(auto, using(crate::proofs::Looks::forms), unfolding(crate::specs::Reading::header_at))]
-pub(crate) fn seen_header<'a>(
-    tries: &mut Tries,
-    i: &'a [u8],
-) -> Result<(&'a [u8], Seen), HeaderError>
+fn spelled_header(i: &[u8]) -> Result<(&[u8], Seen), HeaderError>
     ensures exact { (form : Form) → header_at form i.now ≡ wanted (λ x. (x.0.now, header_of x.1)) (λ x. x.1.fewest) form result }
+    ensures fits { IfOk result (λ x. x.1.length < 2 ^ 32) }
     ensures first { IfOk result (λ x. slice_index i.now 0 ≡ x.1.octet) }
-    ensures tries { TriesOnce tries.old tries.new i.now }
 {
     let [octet, rest @ ..] = i else {
         return Err(HeaderError::CutShort);
     };
-    tries.tick();
     let (rest, tag) = tag_number(*octet % 32, rest)?;
     let (rest, length, fewest) = seen_length(rest)?;
     let seen = Seen {
@@ -206,4 +202,110 @@ pub(crate) fn seen_header<'a>(
         fewest,
     };
     Ok((rest, seen))
+}
+
+/// A header in two words, which a call gives in registers.
+#[derive(Clone, Copy)]
+pub(crate) struct Packed {
+    // The tag number times 2^32, and the length; without a header, why there is none: 0 to 2.
+    numbers: u64,
+    // Twice the header's octets, and one more where its length stands in the fewest; 0 without a header.
+    size: u64,
+}
+
+impl Packed {
+    /// The header, whose first octet isn't packed.
+    #[inline(always)]
+    fn seen(self, octet: u8) -> Seen
+        ensures { result ≡ seen_in self octet }
+    {
+        Seen {
+            octet,
+            tag: Tag((self.numbers / (1 << 32)) as u32),
+            length: (self.numbers % (1 << 32)) as u32,
+            fewest: self.size % 2 == 1,
+        }
+    }
+
+    /// Why there is no header.
+    #[inline(always)]
+    fn failure(self) -> HeaderError
+        ensures { result ≡ failure_in self }
+    {
+        match self.numbers {
+            0 => HeaderError::CutShort,
+            1 => HeaderError::InvalidTag,
+            _ => HeaderError::InvalidLength,
+        }
+    }
+}
+
+/// The header at the front, whatever its octets.
+#[inline(never)]
+fn packed_header(i: &[u8]) -> Packed
+    ensures found { 0 < result.size → (form : Form) → header_at form i.now ≡ wanted (λ s. (drop (result.size / 2) i.now, header_of s)) (λ s. s.fewest) form (Ok (seen_in result (slice_index i.now 0))) }
+    ensures within { result.size / 2 ≤ length i.now }
+    ensures refused { result.size ≡ 0 → (form : Form) → header_at form i.now ≡ no_header (failure_in result) }
+{
+    match spelled_header(i) {
+        Ok((beyond, seen)) => {
+            let numbers = u64::from(seen.tag.0) * (1 << 32) + u64::from(seen.length);
+            let size = 2 * (i.len() - beyond.len()) as u64;
+            if seen.fewest {
+                Packed {
+                    numbers,
+                    size: size + 1,
+                }
+            } else {
+                Packed { numbers, size }
+            }
+        }
+        Err(HeaderError::CutShort) => Packed {
+            numbers: 0,
+            size: 0,
+        },
+        Err(HeaderError::InvalidTag) => Packed {
+            numbers: 1,
+            size: 0,
+        },
+        Err(HeaderError::InvalidLength) => Packed {
+            numbers: 2,
+            size: 0,
+        },
+    }
+}
+
+/// The header at the front, and whether its length stands in the fewest octets. That of two octets, as most are, is read here, and every other one
+/// by a call.
+#[inline(always)]
+#[tactic(auto, using(crate::proofs::Looks::forms), unfolding(crate::specs::Reading::header_at, crate::specs::Reading::tag_at, crate::specs::Reading::length_at))]
+pub(crate) fn seen_header<'a>(
+    tries: &mut Tries,
+    i: &'a [u8],
+) -> Result<(&'a [u8], Seen), HeaderError>
+    ensures exact { (form : Form) → header_at form i.now ≡ wanted (λ x. (x.0.now, header_of x.1)) (λ x. x.1.fewest) form result }
+    ensures first { IfOk result (λ x. slice_index i.now 0 ≡ x.1.octet) }
+    ensures tries { TriesOnce tries.old tries.new i.now }
+{
+    match i {
+        [octet, length @ 0..0x80, beyond @ ..] if *octet % 32 != 31 => {
+            tries.tick();
+            let seen = Seen {
+                octet: *octet,
+                tag: Tag(u32::from(*octet % 32)),
+                length: u32::from(*length),
+                fewest: true,
+            };
+            Ok((beyond, seen))
+        }
+        [] => Err(HeaderError::CutShort),
+        [octet, ..] => {
+            tries.tick();
+            let packed = packed_header(i);
+            if packed.size == 0 {
+                return Err(packed.failure());
+            }
+            Ok((&i[(packed.size / 2) as usize..], packed.seen(*octet)))
+        }
+    }
 }

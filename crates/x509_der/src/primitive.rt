@@ -1,6 +1,6 @@
 //! Values of primitive elements and contents of others, at a place that was looked at.
 
-ghost use Rattle.std.specs.Prelude.{◌≡◌, ◌≤◌, ◌+◌, true, IfOk, IsErr, length, ◌<◌};
+ghost use Rattle.std.specs.Prelude.{◌≡◌, ◌≤◌, ◌+◌, ◌∷◌, true, IfOk, IsErr, length, ◌<◌};
 ghost use Rattle.x509_der.specs.Primitives.{as_refusal, bit_string, bits_of, contents_at, is_constructed, is_implicit, is_primitive, text_of, truth_of, u32_of};
 ghost use Rattle.x509_der.specs.Integer.{integer_bytes};
 ghost use Rattle.x509_der.specs.Oid.{oid_bytes};
@@ -55,9 +55,11 @@ fn text(contents: &[u8]) -> Result<&str, Err<BerError>>
     }
 }
 
-#[inline(always)]
-fn bits(contents: &[u8]) -> Result<BitString<'_>, Err<BerError>>
-    ensures { Gives bit_string result (as_refusal (bits_of contents.now)) }
+/// The bits of these contents.
+#[inline(never)]
+fn checked_bits(contents: &[u8]) -> Result<BitString<'_>, Err<BerError>>
+    ensures reading { Gives bit_string result (as_refusal (bits_of contents.now)) }
+    ensures parts { IfOk result (λ b. contents.now ≡ b.unused_bits ∷ b.bytes.now) }
 {
     match contents {
         [0] => Ok(BitString {
@@ -75,6 +77,19 @@ fn bits(contents: &[u8]) -> Result<BitString<'_>, Err<BerError>>
         }
         _ => Err(Err::Error(BerError::BerValueError)),
     }
+}
+
+/// The same. The octets are cut off here: so nothing but a call looks at the count alone, and it is moved as one word with the padding behind it.
+#[inline(always)]
+fn bits(contents: &[u8]) -> Result<BitString<'_>, Err<BerError>>
+    ensures { Gives bit_string result (as_refusal (bits_of contents.now)) }
+{
+    let mut bits = match checked_bits(contents) {
+        Ok(bits) => bits,
+        Err(e) => return Err(e),
+    };
+    bits.bytes = &contents[1..];
+    Ok(bits)
 }
 
 /// Whether the header has this context tag.

@@ -110,6 +110,7 @@ impl<T: Copy> SetOf<T> {
 }
 
 /// The longest run of members, of which there is at least one, and its mark.
+#[inline(always)]
 pub fn read_set_of<'a, E: ReadError, T: FromDer<'a, E> + Drop>(
     alloc: Global,
     tries: &mut Tries,
