@@ -47,6 +47,7 @@ header_ends bytes rest h fits read =
     let more : length rest < length bytes = omega (arith, ap length s.parts, length-append s.bytes rest, s.some) in
     (ap (λ k. drop k bytes) n ∙ ap (drop (length s.bytes)) s.parts ∙ drop_at s.bytes rest (length s.bytes) refl, more)
 
+-- two words with the numbers of a header unpack to that header
 pub unpacked_is : (s : Seen) (octet numbers size : ℕ) → octet ≡ s.octet → numbers / 2 ^ 32 ≡ s.tag.0 → numbers % 2 ^ 32 ≡ s.length → (size % 2 == 1) ≡ s.fewest → seen_in (record { numbers = numbers; size = size }) octet ≡ s
 unpacked_is s octet numbers size o t l f = rw o (rw t (rw l (rw f refl)))
 

@@ -275,8 +275,8 @@ fn packed_header(i: &[u8]) -> Packed
     }
 }
 
-/// The header at the front, and whether its length stands in the fewest octets. That of two octets, as most are, is read here, and every other one
-/// by a call.
+/// The header at the front, and whether its length stands in the fewest octets. One of two octets, as most are, is read
+/// here, and every other one by a call.
 #[inline(always)]
 #[tactic(auto, using(crate::proofs::Looks::forms), unfolding(crate::specs::Reading::header_at, crate::specs::Reading::tag_at, crate::specs::Reading::length_at))]
 pub(crate) fn seen_header<'a>(

@@ -79,7 +79,8 @@ fn checked_bits(contents: &[u8]) -> Result<BitString<'_>, Err<BerError>>
     }
 }
 
-/// The same. The octets are cut off here: so nothing but a call looks at the count alone, and it is moved as one word with the padding behind it.
+/// The same, with the octets cut off here: so the callers never look at the count of unused bits by itself, and it moves
+/// as one word with the padding behind it.
 #[inline(always)]
 fn bits(contents: &[u8]) -> Result<BitString<'_>, Err<BerError>>
     ensures { Gives bit_string result (as_refusal (bits_of contents.now)) }
