@@ -26,11 +26,12 @@ module _ {A V : Type 0} (view : A → V) where
       let R : List V → Type 0 = λ ys. (p (map view before) (view x) && all_sound p ys (map view xs)) ≡ (p (map view before) (view x) && all_sound (λ ys y. p (map view ys) (view y)) (before ++ x ∷ []) xs) in
       subst R (map-append view before (x ∷ [])) (ap (λ b. p (map view before) (view x) && b) (all_sound-viewed p (before ++ x ∷ []) xs))
 
-  -- the test of a beginning takes one member more
-  pub all_sound-more-viewed : (p : List V → V → Bool) (xs : List A) (k : ℕ) (d : A) → k < length xs → all_sound p [] (map view (take (k + 1) xs)) ≡ (all_sound p [] (map view (take k xs)) && p (map view (take k xs)) (view (get_or xs k d)))
-  all_sound-more-viewed p xs k d h =
-      all_sound-viewed p [] (take (k + 1) xs) ∙ all_sound-more (λ ys y. p (map view ys) (view y)) xs k d h
-      ∙ ap (λ b. b && p (map view (take k xs)) (view (get_or xs k d))) (sym (all_sound-viewed p [] (take k xs)))
+  -- the test of a beginning takes one member more, of which y is read
+  pub all_sound-item : (p : List V → V → Bool) (xs : List A) (k : ℕ) (d : A) (y : V) (so_far passes : Bool) → y ≡ view (get_or xs k d) → k < length xs → so_far ≡ all_sound p [] (map view (take k xs)) → passes ≡ p (map view (take k xs)) y → (so_far && passes) ≡ all_sound p [] (map view (take (k + 1) xs))
+  all_sound-item p xs k d y so_far passes is h before now =
+      ap (λ b. b && passes) before ∙ ap (λ b. all_sound p [] (map view (take k xs)) && b) (now ∙ ap (p (map view (take k xs))) is)
+      ∙ ap (λ b. b && p (map view (take k xs)) (view (get_or xs k d))) (all_sound-viewed p [] (take k xs))
+      ∙ sym (all_sound-more (λ ys z. p (map view ys) (view z)) xs k d h) ∙ sym (all_sound-viewed p [] (take (k + 1) xs))
 
   pub list_all-more-viewed : (p : V → Bool) (xs : List A) (k : ℕ) (d : A) → k < length xs → list_all p (map view (take (k + 1) xs)) ≡ (list_all p (map view (take k xs)) && p (view (get_or xs k d)))
   list_all-more-viewed p xs k d h =
@@ -54,18 +55,20 @@ module _ {L A V : Type 0} (step : L → Message → Logged → L → Type 0) (vi
       let Q : List Message → Type 0 = λ ms. Took step s ms u in
       subst P (sym (flat_map-map f view xs)) (StoppedAt-flat_map WantsMemory step (λ x. f (view x)) xs k d s u e t h (subst Q (flat_map-map f view (take k xs)) p) q)
 
-  -- the same, where a member's messages depend on those before it
-  pub Took-found : (f : List V → V → List Message) (xs : List A) (k : ℕ) (d : A) (s u t : L) → k < length xs → Took step s (findings f [] (map view (take k xs))) u → Took step u (f (map view (take k xs)) (view (get_or xs k d))) t → Took step s (findings f [] (map view (take (k + 1) xs))) t
-  Took-found f xs k d s u t h p q =
+  -- the same, where a member's messages depend on those before it; y is what is read of the next member
+  pub Took-found : (f : List V → V → List Message) (xs : List A) (k : ℕ) (d : A) (y : V) (s u t : L) → y ≡ view (get_or xs k d) → k < length xs → Took step s (findings f [] (map view (take k xs))) u → Took step u (f (map view (take k xs)) y) t → Took step s (findings f [] (map view (take (k + 1) xs))) t
+  Took-found f xs k d y s u t is h p q =
       let P : List Message → Type 0 = λ ms. Took step s ms t in
       let Q : List Message → Type 0 = λ ms. Took step s ms u in
-      subst P (sym (findings-viewed view f [] (take (k + 1) xs))) (Took-findings step (λ ys y. f (map view ys) (view y)) xs k d s u t h (subst Q (findings-viewed view f [] (take k xs)) p) q)
+      let R : V → Type 0 = λ z. Took step u (f (map view (take k xs)) z) t in
+      subst P (sym (findings-viewed view f [] (take (k + 1) xs))) (Took-findings step (λ ys z. f (map view ys) (view z)) xs k d s u t h (subst Q (findings-viewed view f [] (take k xs)) p) (subst R is q))
 
-  pub StoppedAt-found : (f : List V → V → List Message) (xs : List A) (k : ℕ) (d : A) (s u : L) (e : X509Error) (t : L) → k < length xs → Took step s (findings f [] (map view (take k xs))) u → StoppedAt WantsMemory step u (f (map view (take k xs)) (view (get_or xs k d))) e t → StoppedAt WantsMemory step s (findings f [] (map view xs)) e t
-  StoppedAt-found f xs k d s u e t h p q =
+  pub StoppedAt-found : (f : List V → V → List Message) (xs : List A) (k : ℕ) (d : A) (y : V) (s u : L) (e : X509Error) (t : L) → y ≡ view (get_or xs k d) → k < length xs → Took step s (findings f [] (map view (take k xs))) u → StoppedAt WantsMemory step u (f (map view (take k xs)) y) e t → StoppedAt WantsMemory step s (findings f [] (map view xs)) e t
+  StoppedAt-found f xs k d y s u e t is h p q =
       let P : List Message → Type 0 = λ ms. StoppedAt WantsMemory step s ms e t in
       let Q : List Message → Type 0 = λ ms. Took step s ms u in
-      subst P (sym (findings-viewed view f [] xs)) (StoppedAt-findings WantsMemory step (λ ys y. f (map view ys) (view y)) xs k d s u e t h (subst Q (findings-viewed view f [] (take k xs)) p) q)
+      let R : V → Type 0 = λ z. StoppedAt WantsMemory step u (f (map view (take k xs)) z) e t in
+      subst P (sym (findings-viewed view f [] xs)) (StoppedAt-findings WantsMemory step (λ ys z. f (map view ys) (view z)) xs k d s u e t h (subst Q (findings-viewed view f [] (take k xs)) p) (subst R is q))
 
   -- the same of an item that is the next member
   pub Took-item : (f : V → List Message) (xs : List A) (k : ℕ) (x d : A) (s u t : L) → x ≡ get_or xs k d → k < length xs → Took step s (flat_map f (map view (take k xs))) u → Took step u (f (view x)) t → Took step s (flat_map f (map view (take (k + 1) xs))) t
@@ -86,4 +89,4 @@ module _ {L A : Type 0} (step : L → Message → Logged → L → Type 0) where
       let P : List Message → Type 0 = λ ms. StoppedAt WantsMemory step s ms e t in
       subst P (sym is) (StoppedAt-after WantsMemory step s (flat_map f ys) u (f y ++ more) e t p (StoppedAt-before WantsMemory step u (f y) more e t q))
 
-pub ruleset viewed = (running, memory-wanted, Took-viewed, StoppedAt-viewed, Took-found, StoppedAt-found, all_sound-more-viewed, list_all-more-viewed)
+pub ruleset viewed = (running, memory-wanted, Took-viewed, StoppedAt-viewed, list_all-more-viewed)

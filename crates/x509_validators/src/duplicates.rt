@@ -1,12 +1,12 @@
 //! Identifiers that stand twice.
 
-ghost use Rattle.std.specs.Prelude.{◌≡◌, map};
-ghost use Rattle.std.specs.Str.{bytes_eq};
+ghost use Rattle.std.specs.Prelude.{◌≡◌, ℕ, List, [], ◌∷◌, ◌++◌, OnOk, map};
 ghost use Rattle.x509_der.specs.Oid.{oid_bytes};
 ghost use Rattle.x509_loggers.specs.Message.{Logs};
-ghost use Rattle.x509_validators.specs.Duplicates.{is_among, is_new, repeat_error, repeat_errors, all_distinct};
+ghost use Rattle.x509_validators.specs.Duplicates.{IsSetOf, is_new, repeat_error, repeat_errors, all_distinct};
 
 use std::alloc::Global;
+use std::collections::BTreeSet;
 use x509_der::Oid;
 use x509_fields::X509Error;
 use x509_loggers::{Logger, log_error_if};
@@ -27,8 +27,8 @@ pub(crate) trait Identified {
 ///
 /// # Errors
 ///
-/// `OutOfMemory` where there is none for a text, and the logger's own errors.
-#[tactic(auto, using(crate::proofs::Viewed::viewed))]
+/// `OutOfMemory` where there is none for a text or for the set of identifiers, and the logger's own errors.
+#[tactic(auto, using(x509_loggers::proofs::Logs::logging), unfolding(crate::specs::Duplicates::is_among))]
 pub(crate) fn check_duplicates<T: Identified, L: Logger>(
     alloc: Global,
     label: &str,
@@ -39,38 +39,35 @@ pub(crate) fn check_duplicates<T: Identified, L: Logger>(
     ensures can { L.can_log logger.new }
     ensures logs { Logs L.step logger.old (repeat_errors label.now (map T.id members.now)) (all_distinct (map T.id members.now)) result logger.new }
 {
+    // One member alone needs no set.
+    if members.len() < 2 {
+        return Ok(true);
+    }
+    let mut seen = BTreeSet::new(alloc);
     let mut distinct = true;
-    for (i, member) in members.iter().enumerate() {
-        distinct &= check_new(alloc, label, &members[..i], member.oid(), logger)?;
+    for member in members {
+        distinct &= check_new(alloc, label, &mut seen, *member.oid(), logger)?;
     }
     Ok(distinct)
 }
 
+// Logs an error where the identifier was seen before, and adds it to those that were.
 #[tactic(auto, using(x509_loggers::proofs::Logs::logging), unfolding(crate::specs::Duplicates::repeat_error, crate::specs::Duplicates::is_new))]
-fn check_new<T: Identified, L: Logger>(
+fn check_new<'a, L: Logger>(
     alloc: Global,
     label: &str,
-    before: &[T],
-    oid: &Oid<'_>,
+    seen: &mut BTreeSet<Oid<'a>>,
+    oid: Oid<'a>,
     logger: &mut L,
 ) -> Result<bool, X509Error>
     requires { L.can_log logger.old }
     ensures can { L.can_log logger.new }
-    ensures logs { Logs L.step logger.old (repeat_error label.now (map T.id before.now) (oid_bytes oid.now)) (is_new (map T.id before.now) (oid_bytes oid.now)) result logger.new }
+    ensures logs { (ids : List (List ℕ)) → IsSetOf ids seen.old → Logs L.step logger.old (repeat_error label.now ids (oid_bytes oid.entry)) (is_new ids (oid_bytes oid.entry)) result logger.new }
+    ensures seen { (ids : List (List ℕ)) → IsSetOf ids seen.old → OnOk result (IsSetOf (ids ++ oid_bytes oid.entry ∷ []) seen.new) }
 {
-    let found = is_among(before, oid);
-    log_error_if(alloc, logger, found, format_args!("{label}{oid}"))?;
-    Ok(!found)
-}
-
-fn is_among<T: Identified>(members: &[T], oid: &Oid<'_>) -> bool
-    ensures { result ≡ is_among (map T.id members.now) (oid_bytes oid.now) }
-{
-    members.iter().any(|member| has_oid(member, oid))
-}
-
-fn has_oid<T: Identified>(member: &T, oid: &Oid<'_>) -> bool
-    ensures { result ≡ bytes_eq (T.id member.now) (oid_bytes oid.now) }
-{
-    member.oid().as_bytes() == oid.as_bytes()
+    let Ok(new) = seen.insert(oid) else {
+        return Err(X509Error::OutOfMemory);
+    };
+    log_error_if(alloc, logger, !new, format_args!("{label}{oid}"))?;
+    Ok(new)
 }

@@ -29,7 +29,8 @@ use x509_usages::{KeyUsage, PolicyInformation};
 /// - a key usage without a bit (section 4.2.1.3),
 /// - mail addresses and host names that aren't of ASCII among the other names of the subject (section 4.2.1.6).
 ///
-/// Extensions are sound where no extension and no policy stands twice.
+/// Extensions are sound where no extension and no policy stands twice. The identifiers of two extensions or more, and of two policies
+/// or more, are kept in an ordered set while they are looked at; one alone takes no memory.
 #[derive(Debug, Drop)]
 pub struct X509ExtensionsValidator;
 
@@ -56,7 +57,7 @@ impl<'a> Validator<'a> for X509ExtensionsValidator {
 ///
 /// # Errors
 ///
-/// `OutOfMemory` where there is none for a text, and the logger's own errors.
+/// `OutOfMemory` where there is none for a text or for a set of identifiers, and the logger's own errors.
 #[tactic(auto, using(crate::proofs::Viewed::viewed), unfolding(crate::specs::Extensions::extensions_messages, crate::specs::Extensions::are_sound))]
 pub(crate) fn check_extensions<L: Logger>(
     alloc: Global,

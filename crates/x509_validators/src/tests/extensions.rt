@@ -9,6 +9,7 @@ use std::test::Fail;
 use x509_authorities::AuthorityKeyIdentifier;
 use x509_der::{Oid, Sequence};
 use x509_extensions::{ParsedExtension, X509Extension};
+use x509_fields::X509Error;
 use x509_general_names::{GeneralName, SubjectAlternativeName};
 use x509_loggers::{Validator, VecLogger, chain, validate_to_vec};
 use x509_usages::{KeyUsage, PolicyInformation};
@@ -34,11 +35,14 @@ fn report_twice<'e>(alloc: Global, extensions: &'e [X509Extension<'e>]) -> Resul
 }
 
 /// Critical extensions 1.2, 1.3, 1.2, 1.4 and 1.4 whose values weren't looked at.
-fn repeated<'e>(alloc: Global) -> Result<Vec<X509Extension<'e>>, Fail> {
+fn repeated<'e>(alloc: Global) -> Result<Vec<X509Extension<'e>>, X509Error> {
     let mut extensions = Vec::new(alloc);
     for octets in [b"\x2A".as_slice(), b"\x2B", b"\x2A", b"\x2C", b"\x2C"] {
         let oid = Oid::new(octets);
-        extensions.push(X509Extension::new(oid, true, &[], ParsedExtension::Unparsed))?;
+        let one = X509Extension::new(oid, true, &[], ParsedExtension::Unparsed);
+        if extensions.push(one).is_err() {
+            return Err(X509Error::OutOfMemory);
+        }
     }
     Ok(extensions)
 }
@@ -67,6 +71,29 @@ fn chained_with_itself(rt: HostRuntime) -> Result<(), Fail> {
         "Duplicate extension 1.2",
         "Duplicate extension 1.4",
     ];
+    assert!(rt; says(&found, false, &[], &errors));
+    Ok(())
+}
+
+/// What is said of the repeated extensions; want of memory where any request for it was refused.
+fn told(alloc: Global) -> Result<Report, X509Error> {
+    let extensions = repeated(alloc)?;
+    let mut logger = VecLogger::new(alloc);
+    let sound = check_extensions(alloc, extensions.as_slice(), &mut logger)?;
+    let (warnings, errors) = logger.into_parts();
+    Ok((sound, warnings, errors))
+}
+
+/// Where a request for memory is refused, the call says so, and gives its answer when it is made again.
+#[test]
+fn memory_refused(rt: HostRuntime) -> Result<(), Fail> {
+    let mut found = told(rt.alloc());
+    if matches!(&found, Err(X509Error::OutOfMemory)) {
+        println!(rt; "refused: repeated extensions")?;
+        found = told(rt.alloc());
+    }
+    let found = found?;
+    let errors = ["Duplicate extension 1.2", "Duplicate extension 1.4"];
     assert!(rt; says(&found, false, &[], &errors));
     Ok(())
 }
@@ -109,13 +136,13 @@ fn key_identifiers(rt: HostRuntime) -> Result<(), Fail> {
     Ok(())
 }
 
-/// 1.2 three times, which is told twice.
+/// 1.2 three times, which is told twice, and 1.3 twice, which is told between.
 #[test]
 fn policies(rt: HostRuntime) -> Result<(), Fail> {
     let mut policies = Sequence::new(rt.alloc());
-    for _ in 0..3 {
+    for octets in [b"\x2A", b"\x2B", b"\x2C", b"\x2A", b"\x2B", b"\x2A"] {
         policies.push(PolicyInformation {
-            policy_id: Oid::new(b"\x2A"),
+            policy_id: Oid::new(octets),
             policy_qualifiers: None,
         })?;
     }
@@ -123,6 +150,7 @@ fn policies(rt: HostRuntime) -> Result<(), Fail> {
     let found = report_of(rt.alloc(), &one)?;
     let errors = [
         "Certificate Policies: duplicate policy 1.2",
+        "Certificate Policies: duplicate policy 1.3",
         "Certificate Policies: duplicate policy 1.2",
     ];
     assert!(rt; says(&found, false, &[], &errors));
