@@ -11,8 +11,7 @@ use crate::lines::{push_extensions, push_line};
 use crate::report::Report;
 use crate::stop::Stop;
 use std::alloc::Global;
-use x509_parser::certificate::{X509Certificate, X509CertificateParser};
-use x509_parser::parse_x509_certificate_strict;
+use x509_certs::{X509Certificate, X509CertificateParser, parse_x509_certificate_strict};
 
 impl Shown for X509Certificate<'_> {
     ghost Value = { Certificate };

@@ -7,7 +7,7 @@ ghost use Rattle.x509_show.specs.FrontReport.{ReportsAnswer};
 use crate::report::{Report, refused};
 use crate::stop::Stop;
 use std::alloc::Global;
-use x509_parser::error::X509Result;
+use x509_fields::X509Result;
 
 /// What is shown as lines.
 pub trait Shown: Drop {

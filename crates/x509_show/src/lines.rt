@@ -6,7 +6,7 @@ ghost use Rattle.x509_show.specs.Lines.{critical_word, line, extension_line};
 
 use std::alloc::AllocError;
 use std::fmt;
-use x509_parser::extensions::X509Extension;
+use x509_extensions::X509Extension;
 
 /// Adds a line: a label, a colon and a space, what the value shows, and a newline.
 #[tactic(auto, unfolding(crate::specs::Lines::line))]

@@ -17,8 +17,9 @@ use crate::report::Report;
 use crate::stop::Stop;
 use std::alloc::{AllocError, Global};
 use std::fmt;
-use x509_parser::revocation_list::{CertificateRevocationList, RevokedCertificate};
-use x509_parser::{parse_x509_crl, parse_x509_crl_strict};
+use x509_lists::{
+    CertificateRevocationList, RevokedCertificate, parse_x509_crl, parse_x509_crl_strict,
+};
 
 /// Adds the line of a field that may be absent.
 fn push_optional<T: fmt::Display>(

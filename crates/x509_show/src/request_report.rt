@@ -14,10 +14,8 @@ use crate::lines::push_line;
 use crate::report::Report;
 use crate::stop::Stop;
 use std::alloc::{AllocError, Global};
-use x509_parser::certification_request::X509CertificationRequest;
-use x509_parser::cri_attributes::X509CriAttribute;
-use x509_parser::der::FromDer;
-use x509_parser::parse_x509_csr_strict;
+use x509_der::FromDer;
+use x509_requests::{X509CertificationRequest, X509CriAttribute, parse_x509_csr_strict};
 
 /// Adds the line of an attribute.
 fn push_attribute(text: &mut String, attribute: &X509CriAttribute<'_>) -> Result<(), AllocError>

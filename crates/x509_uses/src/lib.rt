@@ -19,9 +19,19 @@ use x509_parser::error::X509Result;
 use x509_parser::parse_x509_certificate;
 use x509_parser::time::ASN1Time;
 
+mod certificates;
+mod elements;
 mod linting;
+mod refusals;
+mod requests;
+mod revocation;
 
+pub use certificates::{days_left, days_valid, has_strong_key, hosts};
+pub use elements::first_identifier;
 pub use linting::{CriticalExtensions, SerialLength};
+pub use refusals::{Next, is_another_structure, next_after};
+pub use requests::is_modest;
+pub use revocation::{count_revoked, entry_of};
 
 #[cfg(test)]
 mod tests;

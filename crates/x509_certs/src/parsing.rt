@@ -1,12 +1,13 @@
-//! Reading certificates by one call.
+//! Reading whole certificates.
 
 ghost use Rattle.std.specs.Prelude.{◌≡◌, ◌<◌, Bool, true, false, IfOk, IfErr};
 ghost use Rattle.x509_der.specs.Promises.{ReadsExactly, is_excused};
 ghost use Rattle.x509_fields.specs.Errors.{is_x509_memory};
 ghost use Rattle.x509_certs.specs.Certificate.{certificate_of, CertificateStands, certificate, certificate_by};
 
+use crate::certificate::X509Certificate;
+use crate::certificate_parser::X509CertificateParser;
 use std::alloc::Global;
-use x509_certs::{X509Certificate, X509CertificateParser};
 use x509_fields::X509Result;
 
 /// Reads the certificate at the front of the bytes, with what the values of its extensions say, and gives what stands

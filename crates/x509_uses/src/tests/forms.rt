@@ -1,0 +1,110 @@
+//! The forms that users write, each once.
+
+use crate::{
+    Next, count_revoked, days_left, days_valid, entry_of, first_identifier, has_strong_key, hosts,
+    is_another_structure, is_modest, next_after,
+};
+use std::test::Fail;
+use x509_parser::certification_request::X509CertificationRequest;
+use x509_parser::der::{FromDer, UnsignedBytes};
+use x509_parser::{parse_x509_certificate, parse_x509_crl};
+
+/// A certificate of two hosts and an address, with a point on a curve of 256 bits, from 1970 to the end of 2049.
+const HOSTS: &[u8] = b"\
+    \x30\x81\xB8\x30\x81\xAD\xA0\x03\x02\x01\x02\x02\x01\x01\x30\x03\x06\x01\x2A\x30\x00\x30\x1E\x17\x0D\x37\x30\x30\x31\x30\x31\x30\
+    \x30\x30\x30\x30\x30\x5A\x17\x0D\x34\x39\x31\x32\x33\x31\x32\x33\x35\x39\x35\x39\x5A\x30\x00\x30\x4F\x30\x09\x06\x07\x2A\x86\x48\
+    \xCE\x3D\x02\x01\x03\x42\x00\x04\x00\x00\x00\x00\x00\x00\x00\x00\x00\x00\x00\x00\x00\x00\x00\x00\x00\x00\x00\x00\x00\x00\x00\x00\
+    \x00\x00\x00\x00\x00\x00\x00\x00\x00\x00\x00\x00\x00\x00\x00\x00\x00\x00\x00\x00\x00\x00\x00\x00\x00\x00\x00\x00\x00\x00\x00\x00\
+    \x00\x00\x00\x00\x00\x00\x00\x00\xA3\x29\x30\x27\x30\x25\x06\x03\x55\x1D\x11\x04\x1E\x30\x1C\x82\x09\x61\x2E\x65\x78\x61\x6D\x70\
+    \x6C\x65\x87\x04\xC0\x00\x02\x01\x82\x09\x62\x2E\x65\x78\x61\x6D\x70\x6C\x65\x30\x03\x06\x01\x2A\x03\x01\x00";
+
+/// A list with the serials 7, 161 and 7.
+const LIST: &[u8] = b"\
+    \x30\x62\x30\x58\x02\x01\x01\x30\x03\x06\x01\x2A\x30\x00\x17\x0D\x37\x30\x30\x31\x30\x31\x30\x30\x30\x30\x30\x30\x5A\x30\x3D\x30\
+    \x12\x02\x01\x07\x17\x0D\x37\x30\x30\x31\x30\x31\x30\x30\x30\x30\x30\x30\x5A\x30\x13\x02\x02\x00\xA1\x17\x0D\x37\x30\x30\x31\x30\
+    \x31\x30\x30\x30\x30\x30\x30\x5A\x30\x12\x02\x01\x07\x17\x0D\x37\x30\x30\x31\x30\x31\x30\x30\x30\x30\x30\x30\x5A\x30\x03\x06\x01\
+    \x2A\x03\x01\x00";
+
+/// A request for the alternative names of that certificate.
+const ASKS: &[u8] = b"\
+    \x30\x53\x30\x49\x02\x01\x00\x30\x00\x30\x08\x30\x03\x06\x01\x2A\x03\x01\x00\xA0\x38\x30\x36\x06\x09\x2A\x86\x48\x86\xF7\x0D\x01\
+    \x09\x0E\x31\x29\x30\x27\x30\x25\x06\x03\x55\x1D\x11\x04\x1E\x30\x1C\x82\x09\x61\x2E\x65\x78\x61\x6D\x70\x6C\x65\x87\x04\xC0\x00\
+    \x02\x01\x82\x09\x62\x2E\x65\x78\x61\x6D\x70\x6C\x65\x30\x03\x06\x01\x2A\x03\x01\x00";
+
+/// The same, with a password.
+const ASKS_WITH_PASSWORD: &[u8] = b"\
+    \x30\x65\x30\x5B\x02\x01\x00\x30\x00\x30\x08\x30\x03\x06\x01\x2A\x03\x01\x00\xA0\x4A\x30\x36\x06\x09\x2A\x86\x48\x86\xF7\x0D\x01\
+    \x09\x0E\x31\x29\x30\x27\x30\x25\x06\x03\x55\x1D\x11\x04\x1E\x30\x1C\x82\x09\x61\x2E\x65\x78\x61\x6D\x70\x6C\x65\x87\x04\xC0\x00\
+    \x02\x01\x82\x09\x62\x2E\x65\x78\x61\x6D\x70\x6C\x65\x30\x10\x06\x09\x2A\x86\x48\x86\xF7\x0D\x01\x09\x07\x31\x03\x0C\x01\x61\x30\
+    \x03\x06\x01\x2A\x03\x01\x00";
+
+#[test]
+fn of_a_certificate(rt: HostRuntime) -> Result<(), Fail> {
+    let (_, certificate) = parse_x509_certificate(rt.alloc(), HOSTS)?;
+    let hosts = hosts(rt.alloc(), &certificate)?;
+    let [first, second] = hosts.as_slice() else {
+        return Err(Fail::from("not two hosts"));
+    };
+    assert_eq!(rt; *first, "a.example");
+    assert_eq!(rt; *second, "b.example");
+    assert!(rt; has_strong_key(&certificate));
+    assert_eq!(rt; days_valid(&certificate), Some(29_219));
+    assert_eq!(rt; days_left(&certificate, 2_524_607_999 - 86_400), Some(1));
+    assert_eq!(rt;
+        days_left(&certificate, 2_524_607_999 + 2 * 86_400),
+        Some(-2)
+    );
+    assert_eq!(rt; days_left(&certificate, i64::MIN), None);
+    Ok(())
+}
+
+#[test]
+fn of_a_list(rt: HostRuntime) -> Result<(), Fail> {
+    let (_, list) = match parse_x509_crl(rt.alloc(), LIST) {
+        Ok(read) => read,
+        Err(_) => return Err(Fail::from("no list")),
+    };
+    let (there, away) = (UnsignedBytes::new(b"\xA1"), UnsignedBytes::new(b"\x08"));
+    assert!(rt;
+        matches!(entry_of(&list, &there), Some(entry) if entry.raw_serial() == b"\x00\xA1".as_slice())
+    );
+    assert!(rt; entry_of(&list, &away).is_none());
+    assert_eq!(rt;
+        count_revoked(&list, &[there, away, UnsignedBytes::new(b"\x07")])?,
+        2
+    );
+    Ok(())
+}
+
+#[test]
+fn of_requests(rt: HostRuntime) -> Result<(), Fail> {
+    let (_, asks) = X509CertificationRequest::from_der(rt.alloc(), ASKS)?;
+    assert!(rt; is_modest(&asks));
+    let (_, with_password) = X509CertificationRequest::from_der(rt.alloc(), ASKS_WITH_PASSWORD)?;
+    assert!(rt; !is_modest(&with_password));
+    Ok(())
+}
+
+#[test]
+fn of_refusals(rt: HostRuntime) -> Result<(), Fail> {
+    let Err(cut) = parse_x509_certificate(rt.alloc(), &HOSTS[..186]) else {
+        return Err(Fail::from("a certificate cut short"));
+    };
+    assert!(rt; matches!(next_after(&cut), Next::AwaitMore));
+    assert!(rt; !is_another_structure(&cut));
+    let Err(another) = parse_x509_certificate(rt.alloc(), LIST) else {
+        return Err(Fail::from("a list"));
+    };
+    assert!(rt; matches!(next_after(&another), Next::Refuse));
+    assert!(rt; is_another_structure(&another));
+    Ok(())
+}
+
+#[test]
+fn of_an_element(rt: HostRuntime) -> Result<(), Fail> {
+    let (rest, id) = first_identifier(b"\x30\x05\x06\x01\x2A\x05\x00\x01")?;
+    assert_eq!(rt; rest, b"\x01".as_slice());
+    assert_eq!(rt; id.as_bytes(), b"\x2A".as_slice());
+    assert!(rt; first_identifier(b"\x30\x00").is_err());
+    Ok(())
+}
