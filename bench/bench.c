@@ -1,6 +1,7 @@
-/* Times the readers over files, and look-ups on a list.
+/* Times the readers over files, look-ups on a list, and a validator.
    bench FILE..                          a row for each reader, over the files that it reads
    bench --look-ups LIST ASKED EXPECTED  the serials of the list ASKED on LIST; EXPECTED has a line for each, its position or -1
+   bench --validate N FILE..             the validator of extensions over certificates with N identifiers each, a row for each
    A row is the least of ROUNDS rounds, all in one process. */
 #define _GNU_SOURCE
 #include <malloc.h>
@@ -13,7 +14,7 @@
 
 /* The library: a slice crosses as a pointer and a length. */
 bool x509_bench_shallow(const uint8_t *, size_t), x509_bench_deep(const uint8_t *, size_t), x509_bench_strict(const uint8_t *, size_t),
-    x509_bench_list(const uint8_t *, size_t), x509_bench_request(const uint8_t *, size_t);
+    x509_bench_list(const uint8_t *, size_t), x509_bench_request(const uint8_t *, size_t), x509_bench_validate(const uint8_t *, size_t);
 size_t x509_bench_text(const uint8_t *, size_t, uint32_t times), x509_bench_entries(const uint8_t *, size_t);
 bool x509_bench_look_up(const uint8_t *, size_t, const uint8_t *asked, size_t, size_t *found, size_t, size_t *scanned, size_t);
 
@@ -239,7 +240,36 @@ static void look_ups(const char *list_name, const char *asked_name, const char *
     if (wrong || scanned_wrong) exit(1);
 }
 
+/* ---- a validator over certificates with many identifiers */
+
+static void validate_rows(const char *count, char **names, size_t files) {
+    size_t n = strtoull(count, NULL, 10);
+    if (!n) stop("no count of identifiers", count);
+    printf("%zu identifiers\n", n);
+    for (size_t k = 0; k < files; k++) {
+        file it = read_file(names[k]);
+        double read = 1e300, time = 1e300;
+        for (int r = 0; r < ROUNDS; r++) {
+            marked = 0;
+            if (!x509_bench_validate(it.bytes, it.size)) stop("isn't read, or isn't sound", it.name);
+            double one = marks[1].time - marks[0].time;
+            if (one < read) read = one;
+            one = marks[2].time - marks[1].time;
+            if (one < time) time = one;
+        }
+        const char *slash = strrchr(it.name, '/');
+        printf("  %-16s %9zu bytes: read %11.0f ns; validate %11.0f ns, %7.1f ns an identifier, %7llu requests\n", slash ? slash + 1 : it.name, it.size,
+            read, time, time / (double)n, (unsigned long long)(marks[2].requests - marks[1].requests));
+        free(it.bytes);
+    }
+}
+
 int main(int argc, char **argv) {
+    if (argc > 3 && !strcmp(argv[1], "--validate")) {
+        clock_used = CLOCK_MONOTONIC;
+        validate_rows(argv[2], argv + 3, (size_t)argc - 3);
+        return 0;
+    }
     if (argc == 5 && !strcmp(argv[1], "--look-ups")) { look_ups(argv[2], argv[3], argv[4]); return 0; }
     size_t count = (size_t)(argc - 1), bytes = 0;
     file *files = room(count * sizeof *files);

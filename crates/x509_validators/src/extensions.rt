@@ -29,8 +29,8 @@ use x509_usages::{KeyUsage, PolicyInformation};
 /// - a key usage without a bit (section 4.2.1.3),
 /// - mail addresses and host names that aren't of ASCII among the other names of the subject (section 4.2.1.6).
 ///
-/// Extensions are sound where no extension and no policy stands twice. The identifiers of two extensions or more, and of two policies
-/// or more, are kept in an ordered set while they are looked at; one alone takes no memory.
+/// Extensions are sound where no extension and no policy stands twice. Each identifier is looked up among those before it, in an
+/// ordered set, which takes memory where there are two extensions or more, or two policies; n of them take n log n time.
 #[derive(Debug, Drop)]
 pub struct X509ExtensionsValidator;
 

@@ -75,22 +75,27 @@ fn chained_with_itself(rt: HostRuntime) -> Result<(), Fail> {
     Ok(())
 }
 
-/// What is said of the repeated extensions; want of memory where any request for it was refused.
-fn told(alloc: Global) -> Result<Report, X509Error> {
-    let extensions = repeated(alloc)?;
+/// What is said of extensions; want of memory where a request for it was refused.
+fn told(alloc: Global, extensions: &[X509Extension<'_>]) -> Result<Report, X509Error> {
     let mut logger = VecLogger::new(alloc);
-    let sound = check_extensions(alloc, extensions.as_slice(), &mut logger)?;
+    let sound = check_extensions(alloc, extensions, &mut logger)?;
     let (warnings, errors) = logger.into_parts();
     Ok((sound, warnings, errors))
+}
+
+/// What is said of the repeated extensions.
+fn told_of_repeated(alloc: Global) -> Result<Report, X509Error> {
+    let extensions = repeated(alloc)?;
+    told(alloc, extensions.as_slice())
 }
 
 /// Where a request for memory is refused, the call says so, and gives its answer when it is made again.
 #[test]
 fn memory_refused(rt: HostRuntime) -> Result<(), Fail> {
-    let mut found = told(rt.alloc());
+    let mut found = told_of_repeated(rt.alloc());
     if matches!(&found, Err(X509Error::OutOfMemory)) {
         println!(rt; "refused: repeated extensions")?;
-        found = told(rt.alloc());
+        found = told_of_repeated(rt.alloc());
     }
     let found = found?;
     let errors = ["Duplicate extension 1.2", "Duplicate extension 1.4"];
@@ -100,10 +105,7 @@ fn memory_refused(rt: HostRuntime) -> Result<(), Fail> {
 
 /// What is said of one extension.
 fn report_of(alloc: Global, extension: &X509Extension<'_>) -> Result<Report, Fail> {
-    let mut logger = VecLogger::new(alloc);
-    let sound = check_extensions(alloc, slice::from_ref(extension), &mut logger)?;
-    let (warnings, errors) = logger.into_parts();
-    Ok((sound, warnings, errors))
+    Ok(told(alloc, slice::from_ref(extension))?)
 }
 
 /// The extension 1.2 with this value.
