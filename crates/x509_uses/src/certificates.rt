@@ -23,10 +23,10 @@ pub fn hosts<'a>(
     Ok(hosts)
 }
 
-/// Whole days from a time, in seconds since 1970, to the end of the certificate; below zero where it has ended.
+/// Whole days from a time, in seconds since 1970, to the end of the certificate, rounded down: below zero where it has ended.
 pub fn days_left(certificate: &X509Certificate<'_>, now: i64) -> Option<i64> {
     let end = certificate.validity().not_after.timestamp();
-    Some(end.checked_sub(now)? / 86_400)
+    Some(end.checked_sub(now)?.div_euclid(86_400))
 }
 
 /// Whole days between the two ends of its validity; none where the last one doesn't come later.

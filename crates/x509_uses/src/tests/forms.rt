@@ -50,6 +50,8 @@ fn of_a_certificate(rt: HostRuntime) -> Result<(), Fail> {
     assert!(rt; has_strong_key(&certificate));
     assert_eq!(rt; days_valid(&certificate), Some(29_219));
     assert_eq!(rt; days_left(&certificate, 2_524_607_999 - 86_400), Some(1));
+    assert_eq!(rt; days_left(&certificate, 2_524_607_999), Some(0));
+    assert_eq!(rt; days_left(&certificate, 2_524_608_000), Some(-1));
     assert_eq!(rt;
         days_left(&certificate, 2_524_607_999 + 2 * 86_400),
         Some(-2)
