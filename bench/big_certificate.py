@@ -9,24 +9,12 @@ import os
 import random
 import sys
 
+from der import ALGORITHM, BIT_STRING, INTEGER, NAME, OCTET_STRING, OID, SEQUENCE, UTC_TIME, element
+
 COUNT, FOLDER = int(sys.argv[1]), sys.argv[2]
-
-
-def element(identifier, *parts):
-    contents = b"".join(parts)
-    length = len(contents)
-    if length < 128:
-        return bytes([identifier, length]) + contents
-    octets = length.to_bytes((length.bit_length() + 7) // 8, "big")
-    return bytes([identifier, 0x80 + len(octets)]) + octets + contents
-
-
-SEQUENCE, SET, INTEGER, BIT_STRING, OCTET_STRING, OID, UTF8_STRING, UTC_TIME = 0x30, 0x31, 0x02, 0x03, 0x04, 0x06, 0x0C, 0x17
 VERSION, EXTENSIONS = 0xA0, 0xA3
 VERSION_3 = element(VERSION, element(INTEGER, b"\x02"))
 SERIAL = element(INTEGER, b"\x01")
-ALGORITHM = element(SEQUENCE, element(OID, bytes.fromhex("2a8648ce3d040302")))  # ecdsa-with-SHA256
-NAME = element(SEQUENCE, element(SET, element(SEQUENCE, element(OID, b"\x55\x04\x03"), element(UTF8_STRING, b"Example CA"))))
 VALIDITY = element(SEQUENCE, element(UTC_TIME, b"240401000000Z"), element(UTC_TIME, b"250401000000Z"))
 KEY_TYPE = element(SEQUENCE, element(OID, bytes.fromhex("2a8648ce3d0201")), element(OID, bytes.fromhex("2a8648ce3d030107")))  # P-256
 KEY = element(SEQUENCE, KEY_TYPE, element(BIT_STRING, b"\x00\x04" + bytes(64)))

@@ -10,22 +10,10 @@ import os
 import random
 import sys
 
+from der import ALGORITHM, BIT_STRING, INTEGER, NAME as ISSUER, SEQUENCE, UTC_TIME, element
+
 COUNT, FOLDER = int(sys.argv[1]), sys.argv[2]
 NUMBERS = random.Random(COUNT)
-
-
-def element(identifier, *parts):
-    contents = b"".join(parts)
-    length = len(contents)
-    if length < 128:
-        return bytes([identifier, length]) + contents
-    octets = length.to_bytes((length.bit_length() + 7) // 8, "big")
-    return bytes([identifier, 0x80 + len(octets)]) + octets + contents
-
-
-SEQUENCE, SET, INTEGER, BIT_STRING, OID, UTF8_STRING, UTC_TIME = 0x30, 0x31, 0x02, 0x03, 0x06, 0x0C, 0x17
-ALGORITHM = element(SEQUENCE, element(OID, bytes.fromhex("2a8648ce3d040302")))  # ecdsa-with-SHA256
-ISSUER = element(SEQUENCE, element(SET, element(SEQUENCE, element(OID, b"\x55\x04\x03"), element(UTF8_STRING, b"Example CA"))))
 WHEN, NEXT = element(UTC_TIME, b"240401000000Z"), element(UTC_TIME, b"240501000000Z")
 
 
