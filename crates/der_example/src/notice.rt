@@ -58,6 +58,3 @@ impl<'a> FromDer<'a, BerError> for Notice<'a> {
 
     ghost never_memory = { notice_laws.laws.never_memory };
 }
-
-#[cfg(test)]
-mod tests;

@@ -62,6 +62,3 @@ impl<'a> FromDer<'a, BerError> for Quota {
 
     ghost never_memory = { quota_laws.laws.never_memory };
 }
-
-#[cfg(test)]
-mod tests;

@@ -62,6 +62,3 @@ impl<'a> FromDer<'a, BerError> for Setting {
 
     ghost never_memory = { setting_laws.laws.never_memory };
 }
-
-#[cfg(test)]
-mod tests;

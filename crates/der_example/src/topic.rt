@@ -123,6 +123,3 @@ impl<'a> FromDer<'a, BerError> for Editions<'a> {
 
     ghost never_memory = { editions_laws.laws.never_memory };
 }
-
-#[cfg(test)]
-mod tests;

@@ -12,9 +12,6 @@ use x509_der::{Elements, Err, FromDer, Place, Sequence, Tries};
 use x509_fields::{TryClone, X509Error, sequence_at};
 use x509_general_names::GeneralName;
 
-#[cfg(test)]
-mod tests;
-
 /// Which key of an issuer signed (RFC 5280, section 4.2.1.1).
 ///
 /// ```text

@@ -14,9 +14,6 @@ use x509_der::{BerError, Class, Err, FromDer, Header, Place, Sequence, Tag, Trie
 use x509_fields::{RelativeDistinguishedName, TryClone, X509Error};
 use x509_general_names::GeneralName;
 
-#[cfg(test)]
-mod tests;
-
 /// The name of a distribution point (RFC 5280, section 4.2.1.13).
 ///
 /// ```text

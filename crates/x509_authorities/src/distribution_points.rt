@@ -14,9 +14,6 @@ use x509_fields::{TryClone, X509Error, sequence_at};
 use x509_general_names::GeneralName;
 use x509_parts::list_error;
 
-#[cfg(test)]
-mod tests;
-
 /// Where a list of revoked certificates is found, which reasons it covers, and who issues it (RFC 5280, section 4.2.1.13).
 ///
 /// ```text

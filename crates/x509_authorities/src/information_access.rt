@@ -22,9 +22,6 @@ use x509_fields::{TryClone, X509Error, sequence_at};
 use x509_general_names::GeneralName;
 use x509_parts::{add_to_group, list_error};
 
-#[cfg(test)]
-mod tests;
-
 /// How and where something is found (RFC 5280, section 4.2.2.1).
 ///
 /// ```text

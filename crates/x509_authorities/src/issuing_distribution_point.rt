@@ -19,9 +19,6 @@ use std::alloc::Global;
 use x509_der::{Elements, Err, FromDer, Place, Tries, soft_at};
 use x509_fields::{TryClone, X509Error, sequence_at};
 
-#[cfg(test)]
-mod tests;
-
 /// Where a list of revoked certificates is found, and what it covers (RFC 5280, section 5.2.5).
 ///
 /// ```text

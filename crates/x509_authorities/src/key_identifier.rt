@@ -69,6 +69,3 @@ impl fmt::LowerHex for KeyIdentifier<'_> {
         write!(f, "{pairs}")
     }
 }
-
-#[cfg(test)]
-mod tests;

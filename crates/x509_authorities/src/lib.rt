@@ -20,6 +20,3 @@ pub use information_access::{AccessDescription, AuthorityInfoAccess, SubjectInfo
 pub use issuing_distribution_point::IssuingDistributionPoint;
 pub use key_identifier::KeyIdentifier;
 pub use reason_flags::ReasonFlags;
-
-#[cfg(test)]
-mod tests;

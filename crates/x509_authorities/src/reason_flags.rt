@@ -16,9 +16,6 @@ use x509_der::{Err, FromDer, Place, Tries};
 use x509_fields::X509Error;
 use x509_parts::{FlagNames, flags_of, is_set};
 
-#[cfg(test)]
-mod tests;
-
 /// Why certificates are revoked (RFC 5280, section 4.2.1.13).
 ///
 /// ```text

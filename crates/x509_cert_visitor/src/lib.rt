@@ -8,6 +8,3 @@ mod walk;
 pub use visit::{CertificateVisit, CertificateVisits};
 pub use visitor::X509CertificateVisitor;
 pub use walk::WalkCertificate;
-
-#[cfg(test)]
-mod tests;

@@ -209,6 +209,3 @@ fn value_visit<'v, 'a>(extension: &'v X509Extension<'a>) -> CertificateVisit<'v,
         _ => CertificateVisit::Unknown(extension),
     }
 }
-
-#[cfg(test)]
-mod tests;

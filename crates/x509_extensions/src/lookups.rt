@@ -83,6 +83,3 @@ pub fn extensions_map<'v, 'a, S: BuildHasher + Drop>(
     }
     Ok(map)
 }
-
-#[cfg(test)]
-mod tests;

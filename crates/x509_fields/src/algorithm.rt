@@ -12,9 +12,6 @@ use crate::structure::sequence_at;
 use std::alloc::Global;
 use x509_der::{Any, Err, FromDer, Oid, Place, Tries};
 
-#[cfg(test)]
-mod tests;
-
 /// An algorithm and its parameters, where they stand (RFC 5280, section 4.1.1.2).
 ///
 /// ```text

@@ -16,9 +16,6 @@ use std::alloc::Global;
 use x509_der::{BerError, Err, ErrorKind, FromDer, Place, Sequence, Tries, read_run};
 use x509_fields::{TryClone, X509Error, sequence_at};
 
-#[cfg(test)]
-mod tests;
-
 /// Other names of the subject (RFC 5280, section 4.2.1.6).
 ///
 /// ```text

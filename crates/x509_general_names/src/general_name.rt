@@ -18,9 +18,6 @@ use std::{fmt, str};
 use x509_der::{Any, BerError, Class, Err, FromDer, HexPairs, Oid, Place, Tag, Tries};
 use x509_fields::{TryClone, X509Error, X509Name};
 
-#[cfg(test)]
-mod tests;
-
 /// A name of one of many kinds (RFC 5280, section 4.2.1.6), told by the number of its tag.
 ///
 /// ```text

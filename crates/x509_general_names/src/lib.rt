@@ -8,6 +8,3 @@ mod name_constraints;
 pub use alternative_names::{IssuerAlternativeName, SubjectAlternativeName};
 pub use general_name::GeneralName;
 pub use name_constraints::{GeneralSubtree, NameConstraints};
-
-#[cfg(test)]
-mod tests;

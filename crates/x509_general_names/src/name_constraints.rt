@@ -18,9 +18,6 @@ use x509_der::{Elements, Err, ErrorKind, FromDer, Place, Sequence, Tries, read_r
 use x509_fields::{TryClone, X509Error, sequence_at};
 use x509_parts::list_error;
 
-#[cfg(test)]
-mod tests;
-
 /// The names that are permitted, and those that are excluded (RFC 5280, section 4.2.1.10).
 ///
 /// ```text

@@ -49,6 +49,3 @@ impl<'a> From<&'a [u8]> for ECPoint<'a> {
         ECPoint { bytes }
     }
 }
-
-#[cfg(test)]
-mod tests;

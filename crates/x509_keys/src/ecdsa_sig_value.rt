@@ -58,6 +58,3 @@ impl<'a> FromDer<'a, BerError> for EcdsaSigValue<'a> {
 
     ghost never_memory = { ecdsa_sig_value_laws.laws.never_memory };
 }
-
-#[cfg(test)]
-mod tests;

@@ -86,6 +86,3 @@ pub(crate) fn first_place(bytes: &[u8]) -> Place<'_>
 {
     Place::look(&mut Tries::new(), bytes)
 }
-
-#[cfg(test)]
-mod tests;

@@ -139,6 +139,3 @@ fn read_fields<'a>(tag: Tag, contents: &'a [u8]) -> Result<RsaAesOaepParams<'a>,
         p_source_alg,
     })
 }
-
-#[cfg(test)]
-mod tests;

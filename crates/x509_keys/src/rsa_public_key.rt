@@ -135,6 +135,3 @@ impl<'a> FromDer<'a, X509Error> for RSAPublicKey<'a> {
 
     ghost never_memory = { rsa_public_key_laws.laws.never_memory };
 }
-
-#[cfg(test)]
-mod tests;

@@ -138,6 +138,3 @@ fn read_fields<'a>(tag: Tag, contents: &'a [u8]) -> Result<RsaSsaPssParams<'a>, 
         trailer_field,
     })
 }
-
-#[cfg(test)]
-mod tests;

@@ -76,6 +76,3 @@ impl<'a> SignatureAlgorithm<'a> {
         }
     }
 }
-
-#[cfg(test)]
-mod tests;

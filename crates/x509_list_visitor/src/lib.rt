@@ -8,6 +8,3 @@ mod walk;
 pub use visit::{ListVisit, ListVisits};
 pub use visitor::CertificateRevocationListVisitor;
 pub use walk::WalkRevocationList;
-
-#[cfg(test)]
-mod tests;

@@ -186,6 +186,3 @@ fn value_visit<'v, 'a>(extension: &'v X509Extension<'a>) -> ListVisit<'v, 'a>
         _ => ListVisit::Unknown(extension),
     }
 }
-
-#[cfg(test)]
-mod tests;

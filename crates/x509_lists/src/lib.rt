@@ -21,6 +21,3 @@ pub use revoked_certificate::RevokedCertificate;
 pub use revoked_iter::RevokedIter;
 pub use tbs_cert_list::TbsCertList;
 pub use x509_extensions::ExtensionIter;
-
-#[cfg(test)]
-mod tests;

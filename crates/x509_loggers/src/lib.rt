@@ -5,8 +5,6 @@ mod callback_logger;
 mod chained;
 mod logger;
 mod stderr_logger;
-#[cfg(test)]
-mod tests;
 mod validate;
 mod validator;
 mod vec_logger;

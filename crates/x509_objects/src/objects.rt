@@ -4,9 +4,6 @@ ghost use Rattle.std.specs.Prelude.{◌≡◌, map};
 ghost use Rattle.std.specs.Option.{option_copied};
 ghost use Rattle.x509_objects.specs.Objects.{name_in, abbreviation, short_name, described, registered_name};
 
-#[cfg(test)]
-mod tests;
-
 /// commonName, 2.5.4.3 (X.520): the contents of the identifier.
 pub const OID_X509_COMMON_NAME: &[u8] = &[0x55, 0x04, 0x03];
 

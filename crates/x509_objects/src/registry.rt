@@ -11,9 +11,6 @@ use std::collections::HashMap;
 use std::hash::{BuildHasherDefault, FoldHasher};
 use x509_der::Oid;
 
-#[cfg(test)]
-mod tests;
-
 /// What an identifier is called: a short name and a description.
 #[derive(Clone, Copy, Debug, PartialEq, Eq)]
 pub struct OidEntry<'a> {

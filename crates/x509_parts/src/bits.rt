@@ -6,9 +6,6 @@ ghost use Rattle.x509_parts.specs.Flags.{reversed, flags_in, has_bit};
 
 use x509_der::BitString;
 
-#[cfg(test)]
-mod tests;
-
 /// The first sixteen bits of a string of bits, of which bit 0, the most significant bit of the first octet, counts 1, and bit 15
 /// 32,768 (X.690, 8.6.2). A bit that is missing is 0.
 #[tactic(auto, unfolding(crate::specs::Flags::flags_in))]

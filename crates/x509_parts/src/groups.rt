@@ -11,9 +11,6 @@ use std::hash::BuildHasher;
 use x509_der::Oid;
 use x509_fields::X509Error;
 
-#[cfg(test)]
-mod tests;
-
 /// Puts a member behind those with its identifier. Where memory is refused, those under that identifier may be lost.
 ///
 /// # Errors

@@ -6,9 +6,6 @@ ghost use Rattle.x509_parts.specs.Texts.{flags_text};
 
 use std::fmt;
 
-#[cfg(test)]
-mod tests;
-
 /// Bits that are shown as the names of those that are set, in rising order with `, ` between them.
 #[derive(Clone, Copy, Debug)]
 pub struct FlagNames<'a> {

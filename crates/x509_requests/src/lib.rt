@@ -24,6 +24,3 @@ pub use password::ChallengePassword;
 pub use request::X509CertificationRequest;
 pub use request_info::X509CertificationRequestInfo;
 pub use requested_iter::RequestedIter;
-
-#[cfg(test)]
-mod tests;

@@ -11,6 +11,3 @@ pub use laws::spelling_laws;
 pub use offset_date_time::OffsetDateTime;
 pub use spelling::{generalized_time, utc_time};
 pub use text::Rfc2822;
-
-#[cfg(test)]
-mod tests;

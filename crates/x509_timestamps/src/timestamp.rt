@@ -127,6 +127,3 @@ pub fn parse_ct_signed_certificate_timestamp<'a>(
         Err(e) => Err(e),
     }
 }
-
-#[cfg(test)]
-mod tests;

@@ -133,6 +133,3 @@ pub fn parse_ct_signed_certificate_timestamp_list<'a>(
         Err(e) => Err(e),
     }
 }
-
-#[cfg(test)]
-mod tests;

@@ -78,6 +78,3 @@ impl<'a> FromDer<'a, X509Error> for BasicConstraints {
 
     ghost never_memory = { basic_constraints_laws.laws.never_memory };
 }
-
-#[cfg(test)]
-mod tests;

@@ -50,6 +50,3 @@ impl<'a> FromDer<'a, X509Error> for CRLNumber<'a> {
 
     ghost never_memory = { crl_number_laws.laws.never_memory };
 }
-
-#[cfg(test)]
-mod tests;

@@ -257,6 +257,3 @@ impl TryClone for ExtendedKeyUsage<'_> {
         })
     }
 }
-
-#[cfg(test)]
-mod tests;

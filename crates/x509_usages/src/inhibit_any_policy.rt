@@ -55,6 +55,3 @@ impl<'a> FromDer<'a, X509Error> for InhibitAnyPolicy {
 
     ghost never_memory = { inhibit_any_policy_laws.laws.never_memory };
 }
-
-#[cfg(test)]
-mod tests;

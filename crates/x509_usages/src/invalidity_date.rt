@@ -69,6 +69,3 @@ fn dated(contents: &[u8]) -> Option<ASN1Time>
     let time = generalized_time(contents)?;
     Some(ASN1Time::new(time))
 }
-
-#[cfg(test)]
-mod tests;

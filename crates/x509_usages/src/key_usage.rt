@@ -156,6 +156,3 @@ impl fmt::Display for KeyUsage {
         write!(f, "{shown}")
     }
 }
-
-#[cfg(test)]
-mod tests;

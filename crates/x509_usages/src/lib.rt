@@ -26,6 +26,3 @@ pub use policies::{CertificatePolicies, PolicyInformation, PolicyList, PolicyQua
 pub use policy_constraints::PolicyConstraints;
 pub use policy_mapping::{PolicyMapping, PolicyMappings};
 pub use reason_code::ReasonCodeValue;
-
-#[cfg(test)]
-mod tests;

@@ -167,6 +167,3 @@ fn reversed(octet: u8) -> u8
 {
     octet.reverse_bits()
 }
-
-#[cfg(test)]
-mod tests;

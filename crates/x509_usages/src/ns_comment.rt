@@ -34,6 +34,3 @@ pub fn read_ns_comment<'a>(tries: &mut Tries, i: &'a [u8]) -> X509Result<'a, &'a
         },
     }
 }
-
-#[cfg(test)]
-mod tests;

@@ -233,6 +233,3 @@ impl TryClone for PolicyList<'_> {
         Ok(PolicyList { policies })
     }
 }
-
-#[cfg(test)]
-mod tests;

@@ -80,6 +80,3 @@ impl<'a> FromDer<'a, X509Error> for PolicyConstraints {
 
     ghost never_memory = { policy_constraints_laws.laws.never_memory };
 }
-
-#[cfg(test)]
-mod tests;

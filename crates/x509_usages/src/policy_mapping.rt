@@ -192,6 +192,3 @@ impl TryClone for PolicyMappings<'_> {
         Ok(PolicyMappings { mappings })
     }
 }
-
-#[cfg(test)]
-mod tests;

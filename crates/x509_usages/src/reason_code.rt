@@ -63,6 +63,3 @@ impl<'a> FromDer<'a, X509Error> for ReasonCodeValue {
 
     ghost never_memory = { reason_code_laws.laws.never_memory };
 }
-
-#[cfg(test)]
-mod tests;

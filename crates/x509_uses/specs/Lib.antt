@@ -1,2 +1,3 @@
 pub mod Conclusions
 pub mod Linting
+pub mod Visiting

@@ -1,6 +1,11 @@
-//! Reading elements that are no certificates.
+//! Reading elements that are no certificates, and looking identifiers up.
+
+ghost use Rattle.std.specs.Prelude.{◌≡◌};
+ghost use Rattle.std.specs.Option.{is_some};
+ghost use Rattle.x509_objects.specs.Registry.{registered};
 
 use x509_parser::der::{BerError, Err, Oid, Tries, read_oid, read_sequence};
+use x509_parser::objects::OidRegistry;
 
 /// The identifier at the front of a SEQUENCE, as in an AlgorithmIdentifier, and what stands behind the SEQUENCE.
 pub fn first_identifier<'a>(bytes: &'a [u8]) -> Result<(&'a [u8], Oid<'a>), Err<BerError>> {
@@ -8,4 +13,11 @@ pub fn first_identifier<'a>(bytes: &'a [u8]) -> Result<(&'a [u8], Oid<'a>), Err<
     let (rest, contents) = read_sequence(&mut tries, bytes)?;
     let (_, id) = read_oid(&mut tries, contents)?;
     Ok((rest, id))
+}
+
+/// Whether a registry that may live as long as the program knows the identifier of these octets, which may live shorter.
+pub fn is_known(registry: &OidRegistry<'static>, octets: &[u8]) -> bool
+    ensures { result ≡ is_some (registered registry.now octets.now) }
+{
+    matches!(registry.get(&Oid::new(octets)), Some(_))
 }

@@ -1,5 +1,5 @@
-//! What a user can conclude from the contracts of the reader: five short callers, a validator and a visitor, none of which has a
-//! proof file.
+//! What a user can conclude from the contracts of the reader: five short callers, a validator and visitors. Only the two walks that
+//! change nothing have proof files, which apply two lemmas of `x509_loggers`.
 //!
 //! Three words of the contracts below say what a certificate is. `certificate deep` is the grammar, with what the values of
 //! extensions say or without (RFC 5280, section 4.1); `certificate_of` is the value that a certificate in memory stands for;
@@ -25,13 +25,15 @@ mod linting;
 mod refusals;
 mod requests;
 mod revocation;
+mod visiting;
 
 pub use certificates::{days_left, days_valid, has_strong_key, hosts};
-pub use elements::first_identifier;
+pub use elements::{first_identifier, is_known};
 pub use linting::{CriticalExtensions, SerialLength};
 pub use refusals::{Next, is_another_structure, next_after};
 pub use requests::is_modest;
 pub use revocation::{count_revoked, entry_of};
+pub use visiting::{Quiet, VisitCount, walk_list_quietly, walk_quietly};
 
 #[cfg(test)]
 mod tests;

@@ -3,6 +3,7 @@
 use super::*;
 use std::test::Fail;
 
+mod accesses;
 mod forms;
 
 /// A certificate that is empty wherever it may be, from 1970 to the end of 2049.

@@ -11,8 +11,6 @@ mod public_key;
 mod readings;
 mod serial;
 mod structure;
-#[cfg(test)]
-mod tests;
 mod times;
 mod validate;
 mod versions;

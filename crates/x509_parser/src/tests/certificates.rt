@@ -1,10 +1,10 @@
 //! Certificates by one call.
 
-use super::fixtures::{EXTENDED_BYTES, Field, PLAIN_BYTES, Sample, certificate, joined, with};
+use super::fixtures::{BITS, EXTENDED_BYTES, PLAIN_BYTES, SERIAL, joined, replaced, whole};
 use crate::parse_x509_certificate_strict;
 use crate::prelude::*;
 use std::test::Fail;
-use x509_der::{Err, Tries};
+use x509_der::{Err, Oid, Tries};
 
 #[test]
 fn nothing(rt: HostRuntime) -> Result<(), Fail> {
@@ -22,13 +22,12 @@ fn nothing(rt: HostRuntime) -> Result<(), Fail> {
 #[test]
 fn windows(rt: HostRuntime) -> Result<(), Fail> {
     let bytes: &[u8] = PLAIN_BYTES;
-    let (rest, certificate) = parse_x509_der(rt.alloc(), bytes)?;
-    assert!(rt; rest.is_empty());
+    let certificate = whole(parse_x509_der(rt.alloc(), bytes))?;
     assert_eq!(rt; certificate.version(), X509Version::V1);
     assert!(rt; certificate.tbs_certificate.serial.is_u32(1));
     assert_eq!(rt; certificate.tbs_certificate.as_ref(), &bytes[2..58]);
     assert_eq!(rt; certificate.as_raw(), bytes);
-    let longer = joined(rt.alloc(), bytes, b"\x05\x00")?;
+    let longer = joined(rt.alloc(), &[bytes, b"\x05\x00"])?;
     let (rest, certificate) = parse_x509_certificate(rt.alloc(), longer.as_slice())?;
     assert!(rt; matches!(rest, [5, 0]));
     assert_eq!(rt; certificate.as_raw(), bytes);
@@ -39,8 +38,7 @@ fn windows(rt: HostRuntime) -> Result<(), Fail> {
 #[test]
 fn key_identifier(rt: HostRuntime) -> Result<(), Fail> {
     let bytes: &[u8] = EXTENDED_BYTES;
-    let (rest, certificate) = parse_x509_certificate(rt.alloc(), bytes)?;
-    assert!(rt; rest.is_empty());
+    let certificate = whole(parse_x509_certificate(rt.alloc(), bytes))?;
     assert_eq!(rt; certificate.version(), X509Version::V3);
     assert_eq!(rt; certificate.as_raw(), bytes);
     assert_eq!(rt; certificate.tbs_certificate.as_ref(), &bytes[2..98]);
@@ -62,34 +60,28 @@ const SERIALS: [(&[u8], u32, &[u8]); 4] = [
 #[test]
 fn serials(rt: HostRuntime) -> Result<(), Fail> {
     for (bytes, serial, contents) in SERIALS {
-        let bytes = certificate(rt.alloc(), &with(Sample::Plain, Field::Serial, bytes))?;
-        let (rest, certificate) = parse_x509_certificate(rt.alloc(), bytes.as_slice())?;
-        assert!(rt; rest.is_empty());
+        let bytes = replaced(rt.alloc(), PLAIN_BYTES, SERIAL, bytes)?;
+        let certificate = whole(parse_x509_certificate(rt.alloc(), bytes.as_slice()))?;
         assert!(rt; certificate.tbs_certificate.serial.is_u32(serial));
         assert_eq!(rt; certificate.raw_serial(), contents);
     }
     Ok(())
 }
 
-/// The signature, what is skipped behind it, and the length of the certificate.
-const TAILS: [(&[u8], usize); 4] = [
-    (b"\x03\x01\x00\x05\x00", 68),
-    (b"\x03\x01\x00\x05\x7F", 68),
-    (b"\x03\x01\x00\x1F\x1E", 68),
-    (
-        b"\x03\x01\x00\x05\x00\x05\x00\x05\x00\x05\x00\x05\x00\x05\x00\x05\x00\x05\x00\x05\x00\x05\x00\x05\x00\x05\x00\x05\x00",
-        92,
-    ),
+/// The signature, and what is skipped behind it.
+const TAILS: [&[u8]; 4] = [
+    b"\x03\x01\x00\x05\x00",
+    b"\x03\x01\x00\x05\x7F",
+    b"\x03\x01\x00\x1F\x1E",
+    b"\x03\x01\x00\x05\x00\x05\x00\x05\x00\x05\x00\x05\x00\x05\x00\x05\x00\x05\x00\x05\x00\x05\x00\x05\x00\x05\x00\x05\x00",
 ];
 
 #[test]
 fn bytes_behind_the_signature(rt: HostRuntime) -> Result<(), Fail> {
-    for (bits, length) in TAILS {
-        let bytes = certificate(rt.alloc(), &with(Sample::Plain, Field::Bits, bits))?;
-        let (rest, read) = parse_x509_certificate(rt.alloc(), bytes.as_slice())?;
-        assert!(rt; rest.is_empty());
+    for bits in TAILS {
+        let bytes = replaced(rt.alloc(), PLAIN_BYTES, BITS, bits)?;
+        let read = whole(parse_x509_certificate(rt.alloc(), bytes.as_slice()))?;
         assert_eq!(rt; read.as_raw(), bytes.as_slice());
-        assert_eq!(rt; read.as_raw().len(), length);
         assert_eq!(rt; read.tbs_certificate.as_ref().len(), 56);
         assert!(rt; read.signature_value.bytes.is_empty());
     }
@@ -104,8 +96,7 @@ fn wrappers_by_their_number_alone(rt: HostRuntime) -> Result<(), Fail> {
         bytes[63] = identifier;
         bytes[64] = length;
         let (_, certificate) = parse_x509_certificate(rt.alloc(), EXTENDED_BYTES)?;
-        let (rest, other) = parse_x509_certificate(rt.alloc(), &bytes)?;
-        assert!(rt; rest.is_empty());
+        let other = whole(parse_x509_certificate(rt.alloc(), &bytes))?;
         assert_eq!(rt; other.version(), X509Version::V3);
         assert_eq!(rt; other.as_raw(), bytes.as_slice());
         assert!(rt;
@@ -119,21 +110,17 @@ fn wrappers_by_their_number_alone(rt: HostRuntime) -> Result<(), Fail> {
 #[test]
 fn repeated_extension(rt: HostRuntime) -> Result<(), Fail> {
     let one: &[u8] = EXTENDED_BYTES;
-    let mut extensions = joined(rt.alloc(), b"\xA3\x40\x30\x3E", &one[67..98])?;
-    extensions.extend_from_slice(&one[67..98])?;
-    let bytes = certificate(
-        rt.alloc(),
-        &with(Sample::Extended, Field::Extensions, extensions.as_slice()),
-    )?;
-    assert_eq!(rt; bytes.len(), 138);
-    let (rest, certificate) = parse_x509_certificate(rt.alloc(), bytes.as_slice())?;
-    assert!(rt; rest.is_empty());
+    let (front, list): (&[u8], &[u8]) = (b"\x30\x81\x87\x30\x7D", b"\xA3\x40\x30\x3E");
+    let parts = [front, &one[4..63], list, &one[67..98], &one[67..106]];
+    let bytes = joined(rt.alloc(), &parts)?;
+    let certificate = whole(parse_x509_certificate(rt.alloc(), bytes.as_slice()))?;
+    let oid = Oid::new(OID_X509_EXT_SUBJECT_KEY_IDENTIFIER);
     assert!(rt;
-        matches!(certificate.extensions(), [a, b]
-            if a == b && a.oid.as_bytes() == b"\x55\x1D\x0E".as_slice() && a.value == &one[76..98])
+        matches!(certificate.extensions(), [a, b] if a == b && a.oid == oid && a.value == &one[76..98])
     );
-    assert!(rt; certificate.iter_extensions().nth(1).is_some());
-    assert!(rt; certificate.iter_extensions().nth(2).is_none());
+    assert!(rt; certificate.find_extension(&oid).is_some());
+    let unique = certificate.get_extension_unique(&oid);
+    assert!(rt; matches!(unique, Err(X509Error::DuplicateExtensions)));
     let (_, strict) = parse_x509_certificate_strict(rt.alloc(), bytes.as_slice())?;
     assert!(rt; strict == certificate);
     Ok(())

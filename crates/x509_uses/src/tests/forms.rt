@@ -2,11 +2,12 @@
 
 use crate::{
     Next, count_revoked, days_left, days_valid, entry_of, first_identifier, has_strong_key, hosts,
-    is_another_structure, is_modest, next_after,
+    is_another_structure, is_known, is_modest, next_after,
 };
 use std::test::Fail;
 use x509_parser::certification_request::X509CertificationRequest;
 use x509_parser::der::{FromDer, UnsignedBytes};
+use x509_parser::objects::oid_registry;
 use x509_parser::{parse_x509_certificate, parse_x509_crl};
 
 /// A certificate of two hosts and an address, with a point on a curve of 256 bits, from 1970 to the end of 2049.
@@ -108,5 +109,14 @@ fn of_an_element(rt: HostRuntime) -> Result<(), Fail> {
     assert_eq!(rt; rest, b"\x01".as_slice());
     assert_eq!(rt; id.as_bytes(), b"\x2A".as_slice());
     assert!(rt; first_identifier(b"\x30\x00").is_err());
+    Ok(())
+}
+
+#[test]
+fn of_octets_that_live_shorter(rt: HostRuntime) -> Result<(), Fail> {
+    let registry = oid_registry(rt.alloc())?;
+    let octets = vec![in rt.alloc(); 0x55u8, 0x04, 0x03]?;
+    assert!(rt; is_known(&registry, octets.as_slice()));
+    assert!(rt; !is_known(&registry, &octets[..2]));
     Ok(())
 }

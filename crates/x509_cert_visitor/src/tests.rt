@@ -1,5 +1,0 @@
-//! Walks over certificates.
-
-mod fixtures;
-mod in_order;
-mod others;

@@ -1,0 +1,97 @@
+//! Keys, their parameters and kinds of signatures.
+
+use super::fixtures::whole;
+use crate::prelude::*;
+use crate::public_key::{ECPoint, RSAPublicKey};
+use crate::signature_algorithm::{RsaSsaPssParams, SignatureAlgorithm};
+use std::alloc::Global;
+use std::test::Fail;
+use x509_der::{Any, BerError, Err, Oid, Tries, read_any};
+
+fn any(bytes: &[u8]) -> Result<Any<'_>, Err<BerError>> {
+    let (_, any) = read_any(&mut Tries::new(), bytes)?;
+    Ok(any)
+}
+
+#[test]
+fn rsa_keys(rt: HostRuntime) -> Result<(), Fail> {
+    let bytes: &[u8] = b"\x30\x08\x02\x03\x00\xC5\x01\x02\x01\x03";
+    let key = whole(RSAPublicKey::from_der(rt.alloc(), bytes))?;
+    assert_eq!(rt; key.modulus, b"\x00\xC5\x01".as_slice());
+    assert_eq!(rt; key.try_exponent(), Ok(3));
+    assert_eq!(rt; key.key_size(), 16);
+    // exponents, and what they are as numbers
+    for (exponent, number) in [
+        (b"\x01\x00\x01".as_slice(), Ok(65_537)),
+        (b"\x80", Err(X509Error::InvalidNumber)),
+        (b"", Err(X509Error::InvalidNumber)),
+    ] {
+        let modulus: &[u8] = b"\x05";
+        let key = RSAPublicKey { modulus, exponent };
+        assert_eq!(rt; key.try_exponent(), number);
+    }
+    // moduli without a size
+    for modulus in [b"\x80".as_slice(), b""] {
+        let exponent: &[u8] = b"\x03";
+        let key = RSAPublicKey { modulus, exponent };
+        assert_eq!(rt; key.key_size(), 0);
+    }
+    // a point: 04 and two coordinates
+    let mut bytes = [0x11; 65];
+    bytes[0] = 0x04;
+    assert_eq!(rt; ECPoint::from(bytes.as_slice()).key_size(), 256);
+    Ok(())
+}
+
+/// Parameters of RSASSA-PSS, and the length of the salt or the refusal.
+const PARAMETERS: [(&[u8], Result<u32, BerError>); 5] = [
+    (b"\x30\x00", Ok(20)),
+    (b"\x30\x05\xA2\x03\x02\x01\x1E", Ok(30)),
+    (b"\x31\x00", Err(BerError::InvalidTag)),
+    (b"\x30\x05\x82\x03\x02\x01\x1E", Err(BerError::InvalidTag)),
+    (b"\x30\x02\xA2\x05", Err(BerError::Incomplete)),
+];
+
+#[test]
+fn pss_parameters(rt: HostRuntime) -> Result<(), Fail> {
+    for (bytes, wanted) in PARAMETERS {
+        match (RsaSsaPssParams::try_from(any(bytes)?), wanted) {
+            (Ok(found), Ok(salt)) => {
+                assert_eq!(rt; found.salt_length(), salt);
+                assert_eq!(rt; found.trailer_field(), 1);
+                assert_eq!(rt; found.hash_algorithm_oid().as_bytes(), OID_HASH_SHA1);
+                let mask = found.mask_gen_algorithm()?;
+                assert_eq!(rt; mask.mgf, Oid::new(b"\x2A\x86\x48\x86\xF7\x0D\x01\x01\x08"));
+                assert_eq!(rt; mask.hash.as_bytes(), OID_HASH_SHA1);
+            }
+            (found, wanted) => {
+                let alike = matches!((found, wanted), (Err(X509Error::Der(a)), Err(b)) if a == b);
+                assert!(rt; alike, "at {bytes:?}");
+            }
+        }
+    }
+    Ok(())
+}
+
+// The kind of a signature, in a word.
+fn kind(alloc: Global, octets: &[u8], parameters: Option<Any<'_>>) -> &'static str {
+    let algorithm = AlgorithmIdentifier::new(Oid::new(octets), parameters);
+    match SignatureAlgorithm::try_from(alloc, &algorithm) {
+        Ok(SignatureAlgorithm::RSA) => "RSA",
+        Ok(SignatureAlgorithm::RSAAES_OAEP(_)) => "RSAES-OAEP",
+        Ok(_) => "another",
+        Err(X509Error::InvalidSignatureValue) => "invalid",
+        Err(_) => "another refusal",
+    }
+}
+
+#[test]
+fn kinds_of_signatures(rt: HostRuntime) -> Result<(), Fail> {
+    let oaep = b"\x2A\x86\x48\x86\xF7\x0D\x01\x01\x07";
+    let none = Some(any(b"\x30\x00")?);
+    assert_eq!(rt; kind(rt.alloc(), oaep, none), "RSAES-OAEP");
+    assert_eq!(rt; kind(rt.alloc(), oaep, None), "invalid");
+    assert_eq!(rt; kind(rt.alloc(), OID_PKCS1_SHA256WITHRSA, None), "RSA");
+    assert_eq!(rt; kind(rt.alloc(), b"\x2A\x03", None), "invalid");
+    Ok(())
+}

@@ -1,0 +1,62 @@
+//! Lists of revoked certificates.
+
+use super::fixtures::{PLAIN_BYTES, whole};
+use crate::prelude::*;
+use std::test::Fail;
+use x509_der::{Err, UnsignedBytes};
+
+/// A list that is empty wherever it may be: 34 bytes.
+pub const PLAIN_LIST: &[u8; 34] =
+    b"\x30\x20\x30\x16\x30\x03\x06\x01\x2A\x30\x00\x17\x0D700101000000Z\x30\x03\x06\x01\x2A\x03\x01\x00";
+
+/// One with the serial 42.
+const ONE: &[u8; 56] =
+    b"\x30\x36\x30\x2C\x30\x03\x06\x01\x2A\x30\x00\x17\x0D700101000000Z\x30\x14\x30\x12\x02\x01\x2A\x17\x0D700101000000Z\x30\x03\x06\x01\x2A\x03\x01\x00";
+
+#[test]
+fn nothing_revoked(rt: HostRuntime) -> Result<(), Fail> {
+    let bytes: &[u8] = PLAIN_LIST;
+    for read in [
+        parse_x509_crl(rt.alloc(), bytes),
+        parse_crl_der(rt.alloc(), bytes),
+        parse_x509_crl_strict(rt.alloc(), bytes),
+    ] {
+        let list = whole(read)?;
+        assert!(rt; list.version().is_none() && list.next_update().is_none());
+        assert_eq!(rt; list.last_update().timestamp(), 0);
+        assert!(rt; list.iter_revoked_certificates().next().is_none());
+        assert!(rt; list.extensions().is_empty());
+        assert_eq!(rt; list.as_raw(), bytes);
+        assert_eq!(rt; list.tbs_cert_list.as_ref(), &bytes[2..26]);
+    }
+    Ok(())
+}
+
+#[test]
+fn one_revoked(rt: HostRuntime) -> Result<(), Fail> {
+    let bytes: &[u8] = ONE;
+    let list = whole(parse_x509_crl(rt.alloc(), bytes))?;
+    let mut revoked = list.iter_revoked_certificates();
+    let entry = revoked.next().ok_or("no entry")?;
+    assert!(rt; entry.serial().is_u32(42));
+    assert_eq!(rt; entry.revocation_date.timestamp(), 0);
+    assert!(rt; revoked.next().is_none());
+    let tbs = &list.tbs_cert_list;
+    assert_eq!(rt; tbs.find_revoked(&UnsignedBytes::new(&[42])), Some(0));
+    assert_eq!(rt; tbs.find_revoked(&UnsignedBytes::new(&[41])), None);
+    Ok(())
+}
+
+#[test]
+fn no_lists(rt: HostRuntime) {
+    let broken_entry: &[u8] =
+        b"\x30\x24\x30\x1A\x30\x03\x06\x01\x2A\x30\x00\x17\x0D700101000000Z\x30\x02\x05\x00\x30\x03\x06\x01\x2A\x03\x01\x00";
+    for (bytes, refusal) in [
+        (broken_entry, Err::Error(X509Error::InvalidExtensions)),
+        (PLAIN_BYTES, Err::Error(X509Error::InvalidDate)),
+        (b"", Err::Incomplete),
+    ] {
+        let read = parse_x509_crl(rt.alloc(), bytes);
+        assert!(rt; matches!(read, Err(e) if e == refusal), "at {bytes:?}");
+    }
+}

@@ -1,0 +1,235 @@
+//! Rows whose octets are changed one at a time, and their fronts: what holds whatever is answered.
+
+use crate::lines::{Line, kind_of, next_line, put_line};
+use crate::promises::{Finding, Promise};
+use crate::rows::{NoRow, Row, row_of};
+use crate::{answers, promises};
+use std::alloc::{AllocError, Global};
+use std::io;
+use std::io::{BufRead, Write};
+use x509_probe_show::put_hex;
+
+/// How many inputs were made, how many of them are taken, and which promises were broken.
+#[derive(Clone, Copy)]
+pub struct Changes {
+    /// All rows.
+    pub rows: u64,
+    /// All changed inputs.
+    pub inputs: u64,
+    /// Those that are taken.
+    pub taken: u64,
+    /// Of each promise, the inputs at which it is broken.
+    pub broken: [u64; 10],
+    /// Rows that can't be read.
+    pub bad: u64,
+}
+
+impl Changes {
+    /// Nothing yet.
+    pub fn new() -> Changes {
+        Changes {
+            rows: 0,
+            inputs: 0,
+            taken: 0,
+            broken: [0; 10],
+            bad: 0,
+        }
+    }
+
+    /// At how many inputs this one is broken.
+    fn count_of(&self, promise: Promise) -> u64 {
+        match self.broken.get(promise.place()) {
+            Some(count) => *count,
+            None => 0,
+        }
+    }
+
+    /// Counts it once more.
+    fn count(&mut self, promise: Promise) {
+        if let Some(count) = self.broken.get_mut(promise.place()) {
+            *count = count.saturating_add(1);
+        }
+    }
+
+    /// Whether all was found as it should be.
+    pub fn is_sound(&self) -> bool {
+        self.broken.iter().all(|count| *count == 0)
+    }
+}
+
+// The number behind the first of these words in an answer.
+fn number_behind(text: &str, word: &str) -> Option<u64> {
+    let (_, behind) = text.split_once(word)?;
+    let digits = match behind.split_once(' ') {
+        Some((digits, _)) => digits,
+        None => behind,
+    };
+    digits.parse().ok()
+}
+
+// What can be seen of a reader's answer.
+fn told(i: &[u8], answer: &str) -> Result<(), Finding> {
+    if answer.contains("! tries=") {
+        return Err(Finding::Broken(Promise::Rest));
+    }
+    if answer.contains(" READ ") {
+        return Err(Finding::Broken(Promise::Readers));
+    }
+    let length = u64::try_from(i.len()).unwrap_or(u64::MAX);
+    match number_behind(answer, " tries=") {
+        Some(tries) if tries / 8 > length => Err(Finding::Broken(Promise::Tries)),
+        _ => Ok(()),
+    }
+}
+
+// What is promised of the structure that a word names.
+fn structure(alloc: Global, word: &str, i: &[u8]) -> Result<(), Finding> {
+    match word {
+        "certificate"
+        | "certificate_shallow"
+        | "certificate_strict"
+        | "certificate_strict_shallow"
+        | "parse"
+        | "parse_certificate_strict" => { promises::certificate(alloc, i) }
+        "crl" | "parse_crl" | "parse_crl_strict" => promises::list(alloc, i),
+        "csr" | "parse_csr_strict" => promises::request(alloc, i),
+        "extension" | "extension_shallow" => promises::extension(alloc, i),
+        "name" => promises::name(alloc, i),
+        "read_any" | "read_any_loose" => promises::element(i),
+        _ => Ok(()),
+    }
+}
+
+// Looks at what a row's word says of an input, and whether it is taken.
+fn look(alloc: Global, row: &Row<'_>, i: &[u8]) -> Result<bool, Finding> {
+    let mut answer = String::new(alloc);
+    answers::answer(alloc, row.word, i, &row.second, &mut answer)?;
+    told(i, answer.as_str())?;
+    structure(alloc, row.word, i)?;
+    Ok(answer.starts_with("ok"))
+}
+
+// A row with another input, as a line.
+fn line_of(alloc: Global, row: &Row<'_>, i: &[u8]) -> Result<String, AllocError> {
+    let mut line = String::from_str(alloc, row.word)?;
+    line.push_str(" ")?;
+    put_hex(&mut line, i)?;
+    if !row.second.is_empty() {
+        line.push_str(" ")?;
+        put_hex(&mut line, &row.second)?;
+    }
+    Ok(line)
+}
+
+// Counts an input, and writes the first one at which a promise is broken.
+fn try_input<W: Write>(
+    alloc: Global,
+    writer: &mut W,
+    row: &Row<'_>,
+    i: &[u8],
+    changes: &mut Changes,
+) -> io::Result<()> {
+    changes.inputs = changes.inputs.saturating_add(1);
+    match look(alloc, row, i) {
+        Ok(taken) => {
+            changes.taken = changes.taken.saturating_add(u64::from(taken));
+            Ok(())
+        }
+        Err(Finding::Memory) => Err(AllocError.into()),
+        Err(Finding::Broken(promise)) => {
+            changes.count(promise);
+            if changes.count_of(promise) == 1 {
+                let line = line_of(alloc, row, i)?;
+                put_line(writer, line.as_bytes())?;
+                writer.write_all(b"  ")?;
+                put_line(writer, promise.broken().as_bytes())?;
+            }
+            Ok(())
+        }
+    }
+}
+
+// Sets the octet at a place, where there is one.
+fn set(octets: &mut [u8], place: usize, octet: u8) {
+    if let Some(held) = octets.get_mut(place) {
+        *held = octet;
+    }
+}
+
+// The row's input with each octet changed, and each of its fronts.
+fn try_changes<W: Write>(
+    alloc: Global,
+    writer: &mut W,
+    row: &Row<'_>,
+    changes: &mut Changes,
+) -> io::Result<()> {
+    let mut input = Vec::new(alloc);
+    input.extend_from_slice(&row.first)?;
+    for (k, octet) in row.first.iter().enumerate() {
+        let next = octet.wrapping_add(1);
+        let previous = octet.wrapping_sub(1);
+        for other in [0x00, 0x80, 0xff, next, previous] {
+            if other != *octet {
+                set(&mut input, k, other);
+                try_input(alloc, writer, row, &input, changes)?;
+            }
+        }
+        set(&mut input, k, *octet);
+        if let Some(front) = row.first.get(..k) {
+            try_input(alloc, writer, row, front, changes)?;
+        }
+    }
+    Ok(())
+}
+
+/// Changes the input of each row of a file, and writes the first input of each promise that is broken.
+pub fn change<R: BufRead, W: Write>(
+    alloc: Global,
+    reader: &mut R,
+    writer: &mut W,
+    changes: &mut Changes,
+) -> io::Result<()> {
+    let mut line = Vec::new(alloc);
+    for _ in 0..u64::MAX {
+        if !next_line(reader, &mut line)? {
+            break;
+        }
+        if let Line::Row = kind_of(&line) {
+            match row_of(alloc, &line) {
+                Ok(row) => {
+                    changes.rows = changes.rows.saturating_add(1);
+                    try_changes(alloc, writer, &row, changes)?;
+                }
+                Err(NoRow::Bad(_)) => changes.bad = changes.bad.saturating_add(1),
+                Err(NoRow::Memory) => return Err(AllocError.into()),
+            }
+        }
+    }
+    Ok(())
+}
+
+/// Writes what was counted.
+pub fn put_changes<W: Write>(writer: &mut W, changes: &Changes) -> io::Result<()> {
+    let Changes {
+        rows,
+        inputs,
+        taken,
+        bad,
+        ..
+    } = *changes;
+    writeln!(
+        writer,
+        "{rows} rows, {inputs} changed inputs, {taken} of them taken"
+    )?;
+    if bad != 0 {
+        writeln!(writer, "{bad} rows can't be read")?;
+    }
+    for promise in Promise::ALL {
+        let count = changes.count_of(promise);
+        if count != 0 {
+            let words = promise.broken();
+            writeln!(writer, "{count} times: {words}")?;
+        }
+    }
+    Ok(())
+}

@@ -1,0 +1,384 @@
+//! What holds of every input, whatever is answered: windows, depths, strict readers, counts, copies and the index.
+
+use std::alloc::{AllocError, Global};
+use x509_parser::certificate::{X509Certificate, X509CertificateParser};
+use x509_parser::certification_request::X509CertificationRequest;
+use x509_parser::der::{Err, FromDer, ReadError, Tries, read_any, read_any_loose};
+use x509_parser::error::X509Error;
+use x509_parser::extensions::{X509Extension, X509ExtensionParser};
+use x509_parser::revocation_list::{CertificateRevocationList, TbsCertList};
+use x509_parser::utils::TryClone;
+use x509_parser::x509::X509Name;
+use x509_parser::{parse_x509_crl_strict, parse_x509_csr_strict};
+use x509_revoked::RevocationIndex;
+
+/// What is looked at.
+#[derive(Clone, Copy)]
+pub enum Promise {
+    /// The rest is the end of the input.
+    Rest,
+    /// At most eight headers a byte are looked at.
+    Tries,
+    /// `read` and `from_der` answer as `read_marked`.
+    Readers,
+    /// What a strict reader takes, the other takes, with the same value.
+    Strict,
+    /// With the values of extensions and without them the same is taken.
+    Depths,
+    /// A window is those bytes of the input that it should be.
+    Windows,
+    /// What was signed, read from its window, is the same, with nothing behind it.
+    SignedPart,
+    /// A copy is equal.
+    Copies,
+    /// The index finds what the list finds.
+    Index,
+    /// An element is the one that its identifier and length octets give.
+    Element,
+}
+
+impl Promise {
+    /// All of them.
+    pub const ALL: [Promise; 10] = [
+        Promise::Rest,
+        Promise::Tries,
+        Promise::Readers,
+        Promise::Strict,
+        Promise::Depths,
+        Promise::Windows,
+        Promise::SignedPart,
+        Promise::Copies,
+        Promise::Index,
+        Promise::Element,
+    ];
+
+    /// What isn't as it should be, in words.
+    pub fn broken(self) -> &'static str {
+        match self {
+            Promise::Rest => "the rest isn't the end of the input",
+            Promise::Tries => "more than eight headers a byte were looked at",
+            Promise::Readers => "the readers of a type answer otherwise",
+            Promise::Strict => "the strict reader takes another value, or more",
+            Promise::Depths => "one depth takes what the other doesn't",
+            Promise::Windows => "a window holds other bytes",
+            Promise::SignedPart => "the signed part reads otherwise",
+            Promise::Copies => "a copy isn't equal",
+            Promise::Index => "the index finds another entry",
+            Promise::Element => "an element is another than its header says",
+        }
+    }
+
+    /// Its place among all.
+    pub fn place(self) -> usize {
+        match self {
+            Promise::Rest => 0,
+            Promise::Tries => 1,
+            Promise::Readers => 2,
+            Promise::Strict => 3,
+            Promise::Depths => 4,
+            Promise::Windows => 5,
+            Promise::SignedPart => 6,
+            Promise::Copies => 7,
+            Promise::Index => 8,
+            Promise::Element => 9,
+        }
+    }
+}
+
+/// Why not all was found as it should be.
+#[derive(Clone, Copy)]
+pub enum Finding {
+    /// This isn't kept.
+    Broken(Promise),
+    /// Memory was refused.
+    Memory,
+}
+
+impl From<AllocError> for Finding {
+    fn from(_error: AllocError) -> Finding {
+        Finding::Memory
+    }
+}
+
+/// What is read, and the rest behind it; none where it is refused.
+type Taken<'a, T> = Option<(&'a [u8], T)>;
+
+// This promise is kept where this holds.
+fn kept(promise: Promise, holds: bool) -> Result<(), Finding> {
+    if holds {
+        Ok(())
+    } else {
+        Err(Finding::Broken(promise))
+    }
+}
+
+// What a reader took; the rest is the end of the input.
+fn taken<'a, T: Drop, E: ReadError>(
+    i: &'a [u8],
+    read: Result<(&'a [u8], T), Err<E>>,
+) -> Result<Taken<'a, T>, Finding> {
+    match read {
+        Ok((rest, value)) => {
+            kept(Promise::Rest, i.ends_with(rest))?;
+            Ok(Some((rest, value)))
+        }
+        Err(refusal) if refusal.is_out_of_memory() => Err(Finding::Memory),
+        Err(_) => Ok(None),
+    }
+}
+
+// The count of a reader that was given these bytes.
+fn counted(i: &[u8], tries: &Tries) -> Result<(), Finding> {
+    let length = u128::try_from(i.len()).unwrap_or(u128::MAX);
+    kept(Promise::Tries, tries.count() / 8 <= length)
+}
+
+// A window that is all that was consumed.
+fn consumed(i: &[u8], rest: &[u8], window: &[u8]) -> Result<(), Finding> {
+    let length = i.len().saturating_sub(rest.len());
+    kept(
+        Promise::Windows,
+        i.starts_with(window) && window.len() == length,
+    )
+}
+
+// The window of the signed part: the front of the contents.
+fn signed(whole: &[u8], part: &[u8]) -> Result<(), Finding> {
+    let mut tries = Tries::new();
+    match read_any(&mut tries, whole) {
+        Ok((_, any)) => kept(Promise::Windows, any.as_bytes().starts_with(part)),
+        Err(_) => Err(Finding::Broken(Promise::Windows)),
+    }
+}
+
+// The signed part, read from its window.
+fn again<'a, T: FromDer<'a, X509Error> + PartialEq + Drop>(
+    alloc: Global,
+    window: &'a [u8],
+    value: &T,
+) -> Result<(), Finding> {
+    match taken(window, T::from_der(alloc, window))? {
+        Some((rest, same)) => kept(Promise::SignedPart, rest.is_empty() && same == *value),
+        None => Err(Finding::Broken(Promise::SignedPart)),
+    }
+}
+
+// A copy of a value.
+fn copied<T: TryClone + PartialEq + Drop>(value: &T) -> Result<(), Finding> {
+    match value.try_clone() {
+        Ok(copy) => kept(Promise::Copies, copy == *value),
+        Err(_) => Err(Finding::Memory),
+    }
+}
+
+// A certificate, by a parser.
+fn certificate_by<'a>(
+    alloc: Global,
+    parser: X509CertificateParser,
+    i: &'a [u8],
+) -> Result<Taken<'a, X509Certificate<'a>>, Finding> {
+    let mut tries = Tries::new();
+    let read = parser.read(alloc, &mut tries, i);
+    counted(i, &tries)?;
+    taken(i, read)
+}
+
+/// Looks at a certificate at both depths, strict and not.
+pub fn certificate(alloc: Global, i: &[u8]) -> Result<(), Finding> {
+    let parser = X509CertificateParser::new();
+    let deep = certificate_by(alloc, parser, i)?;
+    let shallow = certificate_by(alloc, parser.with_deep_parse_extensions(false), i)?;
+    let strict = certificate_by(alloc, parser.with_strict(true), i)?;
+    kept(Promise::Depths, deep.is_some() == shallow.is_some())?;
+    let Some((rest, value)) = deep else {
+        return kept(Promise::Strict, strict.is_none());
+    };
+    if let Some((strict_rest, same)) = strict {
+        kept(Promise::Strict, strict_rest == rest && same == value)?;
+    }
+    consumed(i, rest, value.as_raw())?;
+    signed(value.as_raw(), value.tbs_certificate.as_ref())?;
+    again(
+        alloc,
+        value.tbs_certificate.as_ref(),
+        &value.tbs_certificate,
+    )?;
+    copied(&value)
+}
+
+// The index over a list finds of each entry what the list finds.
+fn indexed(list: &TbsCertList<'_>) -> Result<(), Finding> {
+    let Ok(index) = RevocationIndex::build(list) else {
+        return Err(Finding::Memory);
+    };
+    for entry in list.revoked_certificates.as_slice() {
+        let serial = entry.serial();
+        kept(
+            Promise::Index,
+            index.find(serial) == list.find_revoked(serial),
+        )?;
+    }
+    Ok(())
+}
+
+/// Looks at a list, strict and not.
+pub fn list(alloc: Global, i: &[u8]) -> Result<(), Finding> {
+    let mut tries = Tries::new();
+    let read = CertificateRevocationList::read(alloc, &mut tries, i);
+    counted(i, &tries)?;
+    let loose = taken(i, read)?;
+    let strict = taken(i, parse_x509_crl_strict(alloc, i))?;
+    let Some((rest, value)) = loose else {
+        return kept(Promise::Strict, strict.is_none());
+    };
+    if let Some((strict_rest, same)) = strict {
+        kept(
+            Promise::Strict,
+            strict_rest == rest
+                && same.tbs_cert_list == value.tbs_cert_list
+                && same.signature_algorithm == value.signature_algorithm
+                && same.signature_value == value.signature_value,
+        )?;
+    }
+    consumed(i, rest, value.as_raw())?;
+    signed(value.as_raw(), value.tbs_cert_list.as_ref())?;
+    again(alloc, value.tbs_cert_list.as_ref(), &value.tbs_cert_list)?;
+    copied(&value.tbs_cert_list)?;
+    indexed(&value.tbs_cert_list)
+}
+
+/// Looks at a request, strict and not.
+pub fn request(alloc: Global, i: &[u8]) -> Result<(), Finding> {
+    let mut tries = Tries::new();
+    let read = X509CertificationRequest::read(alloc, &mut tries, i);
+    counted(i, &tries)?;
+    let loose = taken(i, read)?;
+    let strict = taken(i, parse_x509_csr_strict(alloc, i))?;
+    let Some((rest, value)) = loose else {
+        return kept(Promise::Strict, strict.is_none());
+    };
+    if let Some((strict_rest, same)) = strict {
+        kept(Promise::Strict, strict_rest == rest && same == value)?;
+    }
+    consumed(i, rest, value.as_raw())?;
+    signed(value.as_raw(), value.certification_request_info.raw)?;
+    again(
+        alloc,
+        value.certification_request_info.raw,
+        &value.certification_request_info,
+    )
+}
+
+/// Looks at an extension with what its value says, and tells whether it is taken.
+fn deep_extension(alloc: Global, i: &[u8]) -> Result<bool, Finding> {
+    let mut tries = Tries::new();
+    let read = X509Extension::read(alloc, &mut tries, i);
+    counted(i, &tries)?;
+    match taken(i, read)? {
+        Some((_, value)) => {
+            copied(&value)?;
+            Ok(true)
+        }
+        None => Ok(false),
+    }
+}
+
+/// Tells whether an extension is taken whose value isn't looked at.
+fn shallow_extension(alloc: Global, i: &[u8]) -> Result<bool, Finding> {
+    let shallow = X509ExtensionParser::new().with_deep_parse_extensions(false);
+    let mut tries = Tries::new();
+    let read = shallow.read(alloc, &mut tries, i);
+    counted(i, &tries)?;
+    Ok(taken(i, read)?.is_some())
+}
+
+/// Looks at an extension at both depths.
+pub fn extension(alloc: Global, i: &[u8]) -> Result<(), Finding> {
+    let deep = deep_extension(alloc, i)?;
+    let shallow = shallow_extension(alloc, i)?;
+    kept(Promise::Depths, deep == shallow)
+}
+
+/// Looks at a name.
+pub fn name(alloc: Global, i: &[u8]) -> Result<(), Finding> {
+    match taken(i, X509Name::from_der(alloc, i))? {
+        Some((_, value)) => {
+            kept(Promise::Windows, i.starts_with(value.as_raw()))?;
+            copied(&value)
+        }
+        None => Ok(()),
+    }
+}
+
+/// How many identifier octets stand first (X.690, 8.1.2): one, or those up to one without bit 8.
+fn identifier(i: &[u8]) -> Option<usize> {
+    if i.first()? & 0x1f != 0x1f {
+        return Some(1);
+    }
+    let more = i.get(1..)?.iter().position(|octet| *octet < 0x80)?;
+    Some(more.wrapping_add(2))
+}
+
+/// Where an element's contents begin, where it ends, and whether its length stands in the fewest octets (X.690, 8.1.3, 10.1).
+#[derive(Clone, Copy)]
+struct Extent {
+    start: usize,
+    end: usize,
+    fewest: bool,
+}
+
+/// The extent that the octets at the front give.
+fn extent_of(i: &[u8]) -> Option<Extent> {
+    let places = identifier(i)?;
+    let first = *i.get(places)?;
+    let start = places.wrapping_add(1);
+    if first < 0x80 {
+        let end = start.wrapping_add(usize::from(first));
+        return Some(Extent {
+            start,
+            end,
+            fewest: true,
+        });
+    }
+    let behind = start.wrapping_add(usize::from(first & 0x7f));
+    let octets = i.get(start..behind)?;
+    let mut length = 0_usize;
+    for octet in octets {
+        length = length.wrapping_mul(256).wrapping_add(usize::from(*octet));
+    }
+    Some(Extent {
+        start: behind,
+        end: behind.wrapping_add(length),
+        fewest: length > 0x7f && octets.first() != Some(&0),
+    })
+}
+
+/// Looks at an element, strict or not: its contents and the rest are those of its extent, in one try.
+fn element_by(i: &[u8], strict: bool) -> Result<bool, Finding> {
+    let mut tries = Tries::new();
+    let read = if strict {
+        read_any(&mut tries, i)
+    } else {
+        read_any_loose(&mut tries, i)
+    };
+    kept(Promise::Tries, tries.count() == u128::from(!i.is_empty()))?;
+    match (taken(i, read)?, extent_of(i)) {
+        (Some((rest, any)), Some(extent)) => {
+            let right = i.get(extent.start..extent.end) == Some(any.as_bytes())
+                && i.get(extent.end..) == Some(rest)
+                && (extent.fewest || !strict);
+            kept(Promise::Element, right)?;
+            Ok(true)
+        }
+        (Some(_), None) => Err(Finding::Broken(Promise::Element)),
+        (None, _) => Ok(false),
+    }
+}
+
+/// Looks at an element: the strict reader takes what the other takes whose length stands in the fewest octets.
+pub fn element(i: &[u8]) -> Result<(), Finding> {
+    let strict = element_by(i, true)?;
+    let loose = element_by(i, false)?;
+    let fewest = matches!(extent_of(i), Some(extent) if extent.fewest);
+    kept(Promise::Strict, strict == (loose && fewest))
+}
