@@ -60,6 +60,8 @@ is_built() {
     [[ -x $out/$1 && -f $out/sources && $(< "$out/sources") == "$(sources_sum "$1")" ]]
 }
 
+given=() # NAME=FILE for each file that a program reads by this name where it runs unproved
+
 # start PROGRAM [WORD..] < INPUT: what was built of these sources, else the same sources unproved. Standard output and the exit status are
 # the program's own; 3 where there is no answer, and why. No build is begun.
 start() {
@@ -68,8 +70,11 @@ start() {
 }
 
 start_unproved() {
-    local program=$1 room input most=$((64 << 20)) ended
+    local program=$1 room input most=$((64 << 20)) ended it data=()
     shift
+    for it in "${given[@]}"; do
+        data+=(--data "$it")
+    done
     if ! command -v rt > /dev/null; then
         echo "$program: not built, and rt isn't found: put the folder bin of the Rattle kit into PATH" >&2
         exit 3
@@ -88,7 +93,7 @@ start_unproved() {
         echo "$program: unproved it takes less than 64 MiB of input; \`bin/build $program\`" >&2
         exit 3
     fi
-    (cd -- "$root/crates/$program" && rt try -- "$@" < "$input") > "$room/output" 2> "$room/errors"
+    (cd -- "$root/crates/$program" && rt try "${data[@]}" -- "$@" < "$input") > "$room/output" 2> "$room/errors"
     ended=$(sed -nE '$s/^run=ended status=([0-9]+) .*proved=no$/\1/p' -- "$room/errors")
     if [[ -z $ended ]]; then
         echo "$program: it didn't run to its end unproved (60 seconds and 1 MiB of output are what \`rt try\` gives it):" >&2

@@ -1,7 +1,10 @@
 -- Whether a certificate is valid when a clock is read, and for how long it will be.
 use Rattle.std.specs.Prelude.{◌≡◌, ◌↔◌, Option, IsSome, IfSome, ℤ, pos, neg_ℤ, ◌-ℤ◌, ◌*ℤ◌, ◌≤ℤ◌, ◌<ℤ◌}
+use Rattle.std.specs.Int.{int_div_euclid}
 use Rattle.jiff.specs.Words.{IsBetween}
-use Rattle.x509_fields.specs.Times.{instant_of}
+use Rattle.x509_fields.specs.declared.time.asn1_time.ASN1Time.{ASN1Time}
+use Rattle.x509_fields.specs.Times.{instant_of, time_of}
+use Rattle.x509_times.specs.Moments.{unix_seconds}
 use Rattle.x509_certs.specs.declared.validity.Validity.{Validity}
 
 -- a second of the years -9999 to 9999, since 1970-01-01T00:00:00Z
@@ -31,3 +34,11 @@ abbrev pub IsTimeLeft : Validity → ℤ → Option ℤ → Type 0
 IsTimeLeft v seconds left =
     (IsSome left ↔ (IsValidAtSecond v seconds × (instant_at seconds <ℤ instant_of v.not_after)))
     × IfSome left (λ nanos. nanos ≡ instant_of v.not_after -ℤ instant_at seconds)
+
+-- whole days of 86,400 seconds, rounded down
+abbrev pub floor_days : ℤ → ℤ
+floor_days seconds = int_div_euclid seconds (pos 86_400)
+
+-- from a time to the last moment, both by whole seconds
+abbrev pub days_left : Validity → ASN1Time → ℤ
+days_left v time = floor_days (unix_seconds (time_of v.not_after).moment -ℤ unix_seconds (time_of time).moment)

@@ -1,14 +1,15 @@
 //! Reading whole certificates.
 
 ghost use Rattle.std.specs.Prelude.{◌≡◌, ◌<◌, Bool, true, false, IfOk, IfErr};
-ghost use Rattle.x509_der.specs.Promises.{ReadsExactly, is_excused};
+ghost use Rattle.x509_der.specs.Promises.{Answers, ReadsExactly, is_excused};
 ghost use Rattle.x509_fields.specs.Errors.{is_x509_memory};
 ghost use Rattle.x509_certs.specs.Certificate.{certificate_of, CertificateStands, certificate, certificate_by};
 
 use crate::certificate::X509Certificate;
 use crate::certificate_parser::X509CertificateParser;
 use std::alloc::Global;
-use x509_fields::X509Result;
+use x509_der::{Err, FromDer, Tries};
+use x509_fields::{X509Error, X509Result};
 
 /// Reads the certificate at the front of the bytes, with what the values of its extensions say, and gives what stands
 /// behind it (RFC 5280, section 4.1). A value that can't be read hides nothing else.
@@ -49,4 +50,20 @@ pub fn parse_x509_der<'a>(alloc: Global, i: &'a [u8]) -> X509Result<'a, X509Cert
     ensures refused_at_any_depth { IfErr result (λ e. is_excused is_x509_memory true e ≡ false → (deep : Bool) → (certificate deep).Refuses i.now e) }
 {
     parse_x509_certificate(alloc, i)
+}
+
+/// The same as [`parse_x509_certificate`], and whether the certificate stands plainly: whether [`parse_x509_certificate_strict`]
+/// would take it too. The bytes are read once.
+///
+/// # Errors
+///
+/// Those of [`parse_x509_certificate`].
+pub fn parse_x509_certificate_marked<'a>(
+    alloc: Global,
+    i: &'a [u8],
+) -> Result<(&'a [u8], X509Certificate<'a>, bool), Err<X509Error>>
+    ensures reads { Answers is_x509_memory true (λ x. (x.0.now, certificate_of x.1)) result ((certificate true).read i.now) }
+    ensures marks { IfOk result (λ x. x.2 ≡ (certificate true).marks i.now) }
+{
+    X509Certificate::read_marked(alloc, &mut Tries::new(), i)
 }

@@ -1,17 +1,19 @@
 //! When a certificate is valid.
 
-ghost use Rattle.std.specs.Prelude.{IsTrue, ◌↔◌, ℤ, false, option_map};
+ghost use Rattle.std.specs.Prelude.{◌≡◌, IsTrue, ◌↔◌, ℤ, false, option_map};
 ghost use Rattle.jiff.specs.Words.{signed_nanos};
 ghost use Rattle.x509_der.specs.Primitives.{is_constructed};
 ghost use Rattle.x509_der.specs.Reading.{strict};
 ghost use Rattle.x509_fields.specs.Times.{instant_of};
-ghost use Rattle.x509_certs.specs.Expiration.{IsValidAt, IsLeftAt, IsValidAtSecond, IsTimeLeft};
+ghost use Rattle.x509_certs.specs.Expiration.{IsValidAt, IsLeftAt, IsValidAtSecond, IsTimeLeft, days_left};
 ghost use Rattle.x509_certs.specs.Validity.{Period, period_of, period_heads, validity, validity_laws};
 
 use jiff::SignedDuration;
 use std::alloc::Global;
 use x509_der::{Err, FromDer, Place, Tries};
 use x509_fields::{ASN1Time, Clock, X509Error, sequence_at};
+
+const SECONDS_PER_DAY: i64 = 86_400;
 
 /// The first and the last moment at which a certificate is valid (RFC 5280, section 4.1.2.5).
 ///
@@ -58,6 +60,14 @@ impl Validity {
             Ok(now) => self.time_left(&now),
             Err(_) => None,
         }
+    }
+
+    /// How many whole days of 86,400 seconds there are from that time to the last moment, rounded down: 0 within the last day, and below
+    /// zero behind the last moment. Both times count by their whole seconds.
+    pub fn days_left(&self, time: ASN1Time) -> i64
+        ensures { result ≡ days_left self.now time }
+    {
+        (self.not_after.timestamp() - time.timestamp()).div_euclid(SECONDS_PER_DAY)
     }
 
     /// How long the certificate will be valid from that time on; None where it isn't valid then, and at its last valid moment.

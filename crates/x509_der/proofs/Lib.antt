@@ -6,6 +6,7 @@ pub mod Readers
 pub mod OidNumbers
 pub mod OidGroups
 pub mod UnsignedLemmas
+pub mod Decimals
 pub mod Results
 pub mod Agreement
 pub mod Windows

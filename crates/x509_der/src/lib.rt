@@ -5,6 +5,7 @@ mod any;
 mod bit_string;
 mod child;
 mod children;
+mod decimal;
 mod error;
 mod from_der;
 mod front;

@@ -1,5 +1,5 @@
 -- Names whose texts are all there.
-use Rattle.std.proofs.Common.{◌≡◌, ℕ, ◌&&◌, Bool, true, false, List, [], ◌∷◌, map, Option, Some, None, IfSome, is_some, unwrap_or, refl, ap, sym, ◌∙◌}
+use Rattle.std.proofs.Common.{◌≡◌, ℕ, ◌&&◌, Bool, true, false, List, [], ◌∷◌, map, Option, Some, None, is_some, unwrap_or, refl, ap, ◌∙◌}
 use Rattle.std.specs.List.{list_all}
 use Rattle.x509_fields.specs.Names.{Attribute, Name}
 use Rattle.x509_fields.specs.NameTexts.{all_some, value_text, attribute_text, relative_name_text, have_texts, name_text}
@@ -37,8 +37,3 @@ not_shown (Some text) bad e = absurd (cc)
 pub not_there : (o : Option (List ℕ)) → is_some o ≡ false → o ≡ None
 not_there None e = refl
 not_there (Some text) e = absurd (cc)
-
--- what a text that is there was made to be
-pub made : (o : Option (List ℕ)) (text : List ℕ) → is_some o ≡ true → IfSome o (λ bs. text ≡ bs) → o ≡ Some text
-made None text e same = absurd (cc)
-made (Some bs) text e same = ap (λ t. Some t) (sym same)

@@ -5,7 +5,6 @@ use Rattle.std.specs.Option.{option_map}
 use Rattle.std.specs.Fmt.{HasWritten, IsPlainFormatter, WritesOnOk, DisplaysOnOk}
 use Rattle.std.specs.declared.fmt.Error.{Error}
 use Rattle.std.specs.declared.fmt.Formatter.{Formatter}
-use Rattle.std.proofs.Output.{has_written_append}
 
 pub is_some-option_map : {A B : Type 0} (f : A → B) (o : Option A) → is_some (option_map f o) ≡ is_some o
 is_some-option_map f None = refl
@@ -42,11 +41,3 @@ module _ {W : Type 0} (took : W → List ℕ → W → Type 0) where
   pub writes_some : (f g : Formatter W) (r : Result (Unit {0}) Error) (o : Option (List ℕ)) (text : List ℕ) → o ≡ Some text → DisplaysOnOk took f r o g → WritesOnOk took f r text g
   writes_some f g r None text e h = absurd (cc)
   writes_some f g r (Some s) text e h = let same : s ≡ text = cc in rw (← same) h
-
-  -- a text behind two that are always there
-  pub displays_behind : (f g h k : Formatter W) (r : Result (Unit {0}) Error) (first second : List ℕ) (o : Option (List ℕ)) → (IsPlainFormatter f → HasWritten took f first g) → (IsPlainFormatter g → HasWritten took g second h) → DisplaysOnOk took h r o k → DisplaysOnOk took f r (option_map (λ text. first ++ second ++ text) o) k
-  displays_behind f g h k r first second None one two three = tt
-  displays_behind f g h k r first second (Some text) one two three = λ plain ok.
-      let before = one plain in
-      let between = two before.plain in
-      has_written_append took _ _ _ _ _ (has_written_append took _ _ _ _ _ before between) (three between.plain ok)

@@ -45,6 +45,21 @@ reasons =
     (10, codes "AACompromise") ∷
     []
 
+-- the same, as keys and columns have them
+abbrev pub reason_keys : List Named
+reason_keys =
+    (0, codes "unspecified") ∷
+    (1, codes "key_compromise") ∷
+    (2, codes "ca_compromise") ∷
+    (3, codes "affiliation_changed") ∷
+    (4, codes "superseded") ∷
+    (5, codes "cessation_of_operation") ∷
+    (6, codes "certificate_hold") ∷
+    (8, codes "remove_from_crl") ∷
+    (9, codes "privilege_withdrawn") ∷
+    (10, codes "aa_compromise") ∷
+    []
+
 -- the type, and the u32 in decimal and in lower-case hex
 abbrev pub numbered : List ℕ → ℕ → List ℕ
 numbered type_name n = type_name ++ codes "(" ++ decimal n ++ codes " / 0x" ++ digits 16 false n ++ codes ")"
@@ -55,6 +70,10 @@ name_of_number names n = option_map (λ x. x.1) (find (λ x. x.0 == n) names)
 
 abbrev pub version_text : ℕ → List ℕ
 version_text n = unwrap_or (name_of_number versions n) (numbered (codes "X509Version") n)
+
+-- of every other number, `unknown`
+abbrev pub reason_word : ℕ → List ℕ
+reason_word n = unwrap_or (name_of_number reason_keys n) (codes "unknown")
 
 abbrev pub reason_text : ℕ → List ℕ
 reason_text n = unwrap_or (name_of_number reasons n) (numbered (codes "ReasonCode") n)

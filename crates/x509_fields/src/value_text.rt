@@ -1,27 +1,27 @@
 //! The values of attributes as text.
 
-ghost use Rattle.std.specs.Prelude.{◌≡◌, ◌<◌, ◌+◌, ◌/◌, ◌%◌, ◌==◌, ◌++◌, ◌∷◌, [], Some, None, IfSome, IfNone, length, is_some, encode_utf8, slice_index, string_bytes, if◌then◌else◌};
+ghost use Rattle.std.specs.Prelude.{◌≡◌, ◌<◌, ◌+◌, ◌/◌, ◌%◌, ◌==◌, ◌++◌, ◌∷◌, [], Some, None, IfSome, IfNone, length, is_some, unwrap_or, encode_utf8, slice_index, string_bytes, if◌then◌else◌};
 ghost use Rattle.std.specs.Fmt.{DisplaysOnOk};
 ghost use Rattle.std.specs.Option.{option_map};
 ghost use Rattle.hex.specs.Hex.{encode_upper, upper_digits};
 ghost use Rattle.x509_der.specs.Reading.{Gives, element_of};
 ghost use Rattle.x509_fields.specs.Names.{utf8_in};
-ghost use Rattle.x509_fields.specs.NameTexts.{is_utf8_type, utf8_text, utf16_text, units, pair_char, value_text, IsText};
+ghost use Rattle.x509_fields.specs.NameTexts.{is_utf8_type, utf8_text, utf16_text, units, pair_char, value_text, octets_text, lossy_value_text, IsText};
 
 use crate::error::X509Error;
 use std::alloc::Global;
 use std::{fmt, str};
 use x509_der::{Any, Tag};
 
-/// Writes the text of a value; without one, what is written is not told.
+/// Writes the text of a value; of one without, `#` and its contents in upper-case hex.
 pub(crate) fn write_value<W: fmt::Write>(value: &Any<'_>, f: &mut fmt::Formatter<W>) -> fmt::Result
-    ensures { DisplaysOnOk W.write_str_gives f.old result (value_text (element_of value.now)) f.new }
+    ensures { DisplaysOnOk W.write_str_gives f.old result (Some (lossy_value_text (element_of value.now))) f.new }
 {
     let tag = value.tag();
     if is_utf8_type(tag) {
-        write_utf8(value.as_bytes(), f)
+        write_utf8_or_octets(value.as_bytes(), f)
     } else if tag == Tag::BmpString {
-        write_utf16(value.as_bytes(), f)
+        write_utf16_or_octets(value.as_bytes(), f)
     } else {
         write_upper_hex(value.as_bytes(), f)
     }
@@ -86,12 +86,12 @@ pub(crate) fn utf8(octets: &[u8]) -> Result<&str, X509Error>
     }
 }
 
-fn write_utf8<W: fmt::Write>(octets: &[u8], f: &mut fmt::Formatter<W>) -> fmt::Result
-    ensures { DisplaysOnOk W.write_str_gives f.old result (utf8_text octets.now) f.new }
+fn write_utf8_or_octets<W: fmt::Write>(octets: &[u8], f: &mut fmt::Formatter<W>) -> fmt::Result
+    ensures { DisplaysOnOk W.write_str_gives f.old result (Some (unwrap_or (utf8_text octets.now) (octets_text octets.now))) f.new }
 {
     match utf8(octets) {
         Ok(text) => f.write_str(text),
-        Err(_) => Err(fmt::Error),
+        Err(_) => write_octets(octets, f),
     }
 }
 
@@ -134,6 +134,16 @@ fn is_utf16(octets: &[u8]) -> bool
         rest = behind;
     }
     rest.is_empty()
+}
+
+fn write_utf16_or_octets<W: fmt::Write>(octets: &[u8], f: &mut fmt::Formatter<W>) -> fmt::Result
+    ensures { DisplaysOnOk W.write_str_gives f.old result (Some (unwrap_or (utf16_text octets.now) (octets_text octets.now))) f.new }
+{
+    if is_utf16(octets) {
+        write_utf16(octets, f)
+    } else {
+        write_octets(octets, f)
+    }
 }
 
 fn write_utf16<W: fmt::Write>(octets: &[u8], f: &mut fmt::Formatter<W>) -> fmt::Result
@@ -186,6 +196,14 @@ fn pair_char(high: u32, low: u32) -> Option<char>
     } else {
         None
     }
+}
+
+// `#` and the octets in upper-case hex.
+fn write_octets<W: fmt::Write>(octets: &[u8], f: &mut fmt::Formatter<W>) -> fmt::Result
+    ensures { DisplaysOnOk W.write_str_gives f.old result (Some (octets_text octets.now)) f.new }
+{
+    f.write_str("#")?;
+    write_upper_hex(octets, f)
 }
 
 fn write_upper_hex<W: fmt::Write>(octets: &[u8], f: &mut fmt::Formatter<W>) -> fmt::Result

@@ -10,10 +10,13 @@ ghost use Rattle.x509_der.specs.Looks.{behind, is_element};
 ghost use Rattle.x509_der.specs.Place.{at};
 ghost use Rattle.x509_der.specs.Reading.{AddsAtLeast, Gives, Element, element_of, strict};
 ghost use Rattle.x509_fields.specs.Errors.{is_x509_memory};
+ghost use Rattle.x509_general_names.specs.Addresses.{IsAddressIn};
 ghost use Rattle.x509_general_names.specs.GeneralName.{GeneralNameValue, general_name_of, general_name, general_name_heads, general_name_text, alternative, other_name, directory_name, alternative_in, name_inside, value_read, named, general_name_in, GivesName, context_element, hex_pairs, utf8_in};
 ghost use Rattle.x509_general_names.specs.GeneralNameLaws.{general_name_laws};
 
+use crate::addresses::ip_address;
 use std::alloc::Global;
+use std::net::IpAddr;
 use std::{fmt, str};
 use x509_der::{Any, BerError, Class, Err, FromDer, HexPairs, Oid, Place, Tag, Tries};
 use x509_fields::{TryClone, X509Error, X509Name};
@@ -71,6 +74,16 @@ impl<'a> GeneralName<'a> {
         match named(alloc, &mut Tries::new(), any) {
             Ok((name, _)) => Ok(name),
             Err(_) => Err(BerError::OutOfMemory),
+        }
+    }
+
+    /// The address of an `iPAddress` with four octets (IPv4) or sixteen (IPv6); None of every other name.
+    pub fn ip(&self) -> Option<IpAddr>
+        ensures { IsAddressIn (general_name_of self.now) result }
+    {
+        match self {
+            GeneralName::IPAddress(octets) => ip_address(octets),
+            _ => None,
         }
     }
 }

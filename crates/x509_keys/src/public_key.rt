@@ -54,7 +54,7 @@ pub(crate) fn parse_key<'a>(algorithm: &[u8], bits: &'a [u8]) -> Result<PublicKe
 
 /// The same of a key of this kind.
 #[tactic(auto, unfolding(crate::specs::PublicKey::key_of_kind))]
-fn read_key<'a>(kind: KeyKind, bits: &'a [u8]) -> Result<PublicKey<'a>, X509Error>
+pub(crate) fn read_key<'a>(kind: KeyKind, bits: &'a [u8]) -> Result<PublicKey<'a>, X509Error>
     ensures { Gives public_key_of result (key_or_invalid ((key_of_kind kind).read bits.now)) }
 {
     match kind {

@@ -1,15 +1,18 @@
 //! Public keys with their algorithms.
 
-ghost use Rattle.std.specs.Prelude.{false};
-ghost use Rattle.x509_der.specs.Primitives.{is_constructed};
-ghost use Rattle.x509_der.specs.Reading.{Gives, strict};
+ghost use Rattle.std.specs.Prelude.{◌≡◌, Result, false};
+ghost use Rattle.x509_der.specs.Primitives.{is_constructed, is_primitive};
+ghost use Rattle.x509_der.specs.Reading.{Gives, element_of, strict};
 ghost use Rattle.x509_keys.specs.KeyInfo.{KeyInfo, key_info_of, key_info, key_info_heads};
+ghost use Rattle.x509_keys.specs.KeySizes.{algorithm_in, curve_in, size_in, size_of_key};
 ghost use Rattle.x509_keys.specs.Laws.{key_info_laws};
-ghost use Rattle.x509_keys.specs.PublicKey.{ParsesKeyIn, key_in, public_key_of};
+ghost use Rattle.x509_keys.specs.PublicKey.{Key, ParsesKeyIn, key_in, public_key_of};
 
-use crate::public_key::{PublicKey, parse_key};
+use crate::key_algorithm::{KeyAlgorithm, NamedCurve};
+use crate::key_kind::KeyKind;
+use crate::public_key::{PublicKey, parse_key, read_key};
 use std::alloc::Global;
-use x509_der::{BitString, Err, FromDer, Place, Tries};
+use x509_der::{Any, BitString, Class, Err, FromDer, Place, Tries};
 use x509_fields::{AlgorithmIdentifier, X509Error, sequence_at};
 
 /// A public key and its algorithm (RFC 5280, section 4.1.2.7).
@@ -45,6 +48,69 @@ impl<'a> SubjectPublicKeyInfo<'a> {
             self.subject_public_key.bytes,
         )
     }
+
+    /// What the key is for, by the algorithm's identifier.
+    pub fn key_algorithm(&self) -> KeyAlgorithm
+        ensures { result ≡ algorithm_in (key_info_of self.now) }
+    {
+        KeyAlgorithm::of(self.algorithm.algorithm.as_bytes())
+    }
+
+    /// The curve that the parameters of the algorithm name (RFC 5480, section 2.1.1); None where they name none, or one that isn't
+    /// known here.
+    pub fn named_curve(&self) -> Option<NamedCurve>
+        ensures { result ≡ curve_in (key_info_of self.now) }
+    {
+        match self.algorithm.parameters {
+            Some(parameters) if is_identifier(&parameters) => NamedCurve::of(parameters.as_bytes()),
+            _ => None,
+        }
+    }
+
+    /// The size in bits: of an RSA key, also one for RSASSA-PSS, that of its modulus ([`RSAPublicKey::key_size`](crate::RSAPublicKey));
+    /// on a curve that is known, that of a coordinate, else that which the point's octets have; of the keys of RFC 8410 that of their
+    /// octets, 256, 448 (X448) or 456 (Ed448); of a GOST R 34.10-2012 key 256 or 512; of others that of [`PublicKey::key_size`].
+    ///
+    /// None for algorithms that aren't known, and where the key bits hold no key that has to be read for it.
+    pub fn key_size(&self) -> Option<usize>
+        ensures { result ≡ size_in (key_info_of self.now) }
+    {
+        match self.key_algorithm() {
+            KeyAlgorithm::Rsa | KeyAlgorithm::Dsa | KeyAlgorithm::GostR3410 => size_of(
+                self.parsed(),
+            ),
+            KeyAlgorithm::RsaPss => size_of(read_key(KeyKind::RSA, self.subject_public_key.bytes)),
+            KeyAlgorithm::Ec => match self.named_curve() {
+                Some(curve) => Some(curve.field_bits()),
+                None => size_of(self.parsed()),
+            },
+            KeyAlgorithm::X25519 | KeyAlgorithm::Ed25519 | KeyAlgorithm::GostR3410_2012_256 => Some(
+                256,
+            ),
+            KeyAlgorithm::X448 => Some(448),
+            KeyAlgorithm::Ed448 => Some(456),
+            KeyAlgorithm::GostR3410_2012_512 => Some(512),
+            KeyAlgorithm::Unknown => None,
+        }
+    }
+}
+
+/// The size of a key that was read.
+fn size_of(read: Result<PublicKey<'_>, X509Error>) -> Option<usize>
+    ensures { (outcome : Result Key X509Error) → Gives public_key_of read.entry outcome → result ≡ size_of_key outcome }
+{
+    match read {
+        Ok(key) => Some(key.key_size()),
+        Err(_) => None,
+    }
+}
+
+/// Whether it is an OBJECT IDENTIFIER.
+fn is_identifier(any: &Any<'_>) -> bool
+    ensures { result ≡ is_primitive 6 (element_of any.now).header }
+{
+    let header = any.header();
+    matches!(header.class, Class::Universal) && !header.constructed && header.tag.0 == 6
 }
 
 /// A key that cannot be read is `InvalidSPKI`; the SEQUENCE and the algorithm have their own refusals.

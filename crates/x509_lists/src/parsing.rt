@@ -1,14 +1,14 @@
 //! Reading whole lists.
 
-ghost use Rattle.std.specs.Prelude.{true, IfOk};
-ghost use Rattle.x509_der.specs.Promises.{ReadsExactly};
+ghost use Rattle.std.specs.Prelude.{◌≡◌, true, IfOk};
+ghost use Rattle.x509_der.specs.Promises.{Answers, ReadsExactly};
 ghost use Rattle.x509_fields.specs.Errors.{is_x509_memory};
 ghost use Rattle.x509_lists.specs.CertificateList.{ListStands, list_of, certificate_list, plain_list};
 
 use crate::certificate_list::CertificateRevocationList;
 use std::alloc::Global;
-use x509_der::{FromDer, Tries};
-use x509_fields::X509Result;
+use x509_der::{Err, FromDer, Tries};
+use x509_fields::{X509Error, X509Result};
 use x509_signed::read_plain;
 
 /// Reads the list of revoked certificates at the front of the bytes (RFC 5280, section 5.1), and gives what stands behind it.
@@ -59,4 +59,20 @@ pub fn parse_x509_crl_strict<'a>(
         Ok((rest, list)) => Ok((rest, list)),
         Err(e) => Err(e),
     }
+}
+
+/// The same as [`parse_x509_crl`], and whether the list stands plainly: whether [`parse_x509_crl_strict`] would take it too. The
+/// bytes are read once.
+///
+/// # Errors
+///
+/// Those of [`parse_x509_crl`].
+pub fn parse_x509_crl_marked<'a>(
+    alloc: Global,
+    i: &'a [u8],
+) -> Result<(&'a [u8], CertificateRevocationList<'a>, bool), Err<X509Error>>
+    ensures reads { Answers is_x509_memory true (λ x. (x.0.now, list_of x.1)) result (certificate_list.read i.now) }
+    ensures marks { IfOk result (λ x. x.2 ≡ certificate_list.marks i.now) }
+{
+    CertificateRevocationList::read_marked(alloc, &mut Tries::new(), i)
 }

@@ -1,9 +1,11 @@
 //! The object identifiers of certificates, by the octets of their contents (X.690, section 8.19), and what they are called.
 #![tactic(auto)]
 
+mod full;
 mod objects;
 mod registry;
 
+pub use full::registry_full;
 pub use objects::{
     OID_CT_LIST_SCT, OID_DOMAIN_COMPONENT, OID_GOST_R3410_2001, OID_HASH_SHA1, OID_KEY_TYPE_DSA,
     OID_KEY_TYPE_EC_PUBLIC_KEY, OID_KEY_TYPE_GOST_R3410_2012_256, OID_KEY_TYPE_GOST_R3410_2012_512,

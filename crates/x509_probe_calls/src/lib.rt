@@ -4,6 +4,7 @@
 #![tactic(auto)]
 
 mod calls;
+mod columns;
 mod groups;
 mod keys;
 mod look_ups;
@@ -20,6 +21,7 @@ pub fn answer(
 ) -> Result<bool, AllocError> {
     Ok(
         calls::answer(alloc, word, a, b, out)?
+            || columns::answer(alloc, word, a, out)?
             || look_ups::answer(alloc, word, a, b, out)?
             || groups::answer(alloc, word, a, out)?
             || keys::answer(alloc, word, a, b, out)?,

@@ -1,15 +1,33 @@
-//! Reading whole requests where they stand plainly.
+//! Reading whole requests.
 
-ghost use Rattle.std.specs.Prelude.{true, IfOk};
-ghost use Rattle.x509_der.specs.Promises.{ReadsExactly};
+ghost use Rattle.std.specs.Prelude.{◌≡◌, true, IfOk};
+ghost use Rattle.x509_der.specs.Promises.{Answers, ReadsExactly};
 ghost use Rattle.x509_fields.specs.Errors.{is_x509_memory};
-ghost use Rattle.x509_requests.specs.Request.{RequestStands, certification_request_of, plain_request};
+ghost use Rattle.x509_requests.specs.Request.{RequestStands, certification_request, certification_request_of, plain_request};
 
 use crate::request::X509CertificationRequest;
 use std::alloc::Global;
-use x509_der::Tries;
-use x509_fields::X509Result;
+use x509_der::{Err, FromDer, Tries};
+use x509_fields::{X509Error, X509Result};
 use x509_signed::read_plain;
+
+/// Reads the certification request at the front of the bytes (RFC 2986, section 4.2), and gives what stands behind it.
+///
+/// # Errors
+///
+/// Those of the first field in reading order that can't be read, and `Failure(OutOfMemory)`.
+pub fn parse_x509_csr<'a>(
+    alloc: Global,
+    i: &'a [u8],
+) -> X509Result<'a, X509CertificationRequest<'a>>
+    ensures exact { ReadsExactly is_x509_memory true (λ x. (x.0.now, certification_request_of x.1)) certification_request i.now result }
+    ensures stands { IfOk result (λ x. RequestStands i.now (certification_request_of x.1) x.0.now) }
+{
+    match X509CertificationRequest::from_der(alloc, i) {
+        Ok((rest, request)) => Ok((rest, request)),
+        Err(e) => Err(e),
+    }
+}
 
 /// Reads the certification request at the front of the bytes (RFC 2986, section 4.2) where it stands plainly, by no rule that is
 /// looser than the standard, and gives what stands behind it.
@@ -29,4 +47,20 @@ pub fn parse_x509_csr_strict<'a>(
         Ok((rest, request)) => Ok((rest, request)),
         Err(e) => Err(e),
     }
+}
+
+/// The same as [`parse_x509_csr`], and whether the request stands plainly: whether [`parse_x509_csr_strict`] would take it too. The
+/// bytes are read once.
+///
+/// # Errors
+///
+/// Those of [`parse_x509_csr`].
+pub fn parse_x509_csr_marked<'a>(
+    alloc: Global,
+    i: &'a [u8],
+) -> Result<(&'a [u8], X509CertificationRequest<'a>, bool), Err<X509Error>>
+    ensures reads { Answers is_x509_memory true (λ x. (x.0.now, certification_request_of x.1)) result (certification_request.read i.now) }
+    ensures marks { IfOk result (λ x. x.2 ≡ certification_request.marks i.now) }
+{
+    X509CertificationRequest::read_marked(alloc, &mut Tries::new(), i)
 }

@@ -1,7 +1,8 @@
 -- A time as text.
-use Rattle.std.specs.Prelude.{ℕ, ◌+◌, ◌/◌, ◌%◌, List, [], ◌∷◌, ◌++◌, nat_lt, ◌==◌, if◌then◌else◌, codes, ℤ, unsigned_abs}
+use Rattle.std.specs.Prelude.{ℕ, ◌+◌, ◌/◌, ◌%◌, List, [], ◌∷◌, ◌++◌, nat_lt, ◌==◌, if◌then◌else◌, codes, ℤ, pos, unsigned_abs}
 use Rattle.std.specs.Fmt.{signed_decimal}
 use Rattle.std.specs.Int.{is_negative}
+use Rattle.std.specs.Ordering.{int_eq}
 use Rattle.x509_times.specs.Moments.{Moment}
 use Rattle.x509_times.specs.Spelling.{two_digits}
 
@@ -45,3 +46,18 @@ year_text year = two_digits (year / 100) ++ two_digits (year % 100)
 -- zone: a sign and hhmm
 unfoldable pub zone_text : ℤ → List ℕ
 zone_text minutes = (if is_negative minutes then codes "-" else codes "+") ++ two_digits (unsigned_abs minutes / 60) ++ two_digits (unsigned_abs minutes % 60)
+
+-- ---- as internet protocols write it (RFC 3339, section 5.6)
+
+abbrev pub three_digits : ℕ → List ℕ
+three_digits n = (48 + n / 100) ∷ two_digits (n % 100)
+
+-- time-secfrac: `.` and nine digits; nothing where the fraction is zero
+unfoldable pub fraction_text : ℕ → List ℕ
+fraction_text nanosecond =
+    if nanosecond == 0 then []
+    else (codes "." ++ three_digits (nanosecond / 1_000_000) ++ three_digits (nanosecond / 1000 % 1000) ++ three_digits (nanosecond % 1000))
+
+-- time-offset: `Z` where it is zero, else a sign and hh:mm
+unfoldable pub utc_offset_text : ℤ → List ℕ
+utc_offset_text minutes = if int_eq minutes (pos 0) then codes "Z" else offset_text minutes

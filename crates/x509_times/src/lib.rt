@@ -10,4 +10,4 @@ mod text;
 pub use laws::spelling_laws;
 pub use offset_date_time::OffsetDateTime;
 pub use spelling::{generalized_time, utc_time};
-pub use text::Rfc2822;
+pub use text::{Rfc2822, Rfc3339};

@@ -1,8 +1,8 @@
 //! Civil date-times with an offset from UTC.
 
-ghost use Rattle.std.specs.Prelude.{◌≡◌, ◌↔◌, pos, ◌+ℤ◌, ◌-ℤ◌, IsSome, IfSome};
-ghost use Rattle.jiff.specs.Words.{civil_nanos, signed_nanos};
-ghost use Rattle.x509_times.specs.Moments.{IsOffset, IsCivil, instant, floor_seconds};
+ghost use Rattle.std.specs.Prelude.{◌≡◌, ◌↔◌, pos, neg_ℤ, ◌+ℤ◌, ◌-ℤ◌, IsSome, IfSome};
+ghost use Rattle.jiff.specs.Words.{IsBetween, civil_nanos, signed_nanos};
+ghost use Rattle.x509_times.specs.Moments.{IsOffset, IsCivil, instant, floor_seconds, unix_seconds};
 
 use jiff::SignedDuration;
 use jiff::civil::DateTime;
@@ -74,13 +74,17 @@ impl OffsetDateTime {
         civil.to_nanosecond() - i128::from(self.offset_minutes) * NANOS_PER_MINUTE
     }
 
-    /// The whole seconds since 1970-01-01T00:00:00Z, rounded down.
+    /// The whole seconds since 1970-01-01T00:00:00Z, rounded down: at least those of -9999-01-01T00:00:00+23:59, and at most those of
+    /// 9999-12-31T23:59:59-23:59.
     pub fn timestamp(&self) -> i64
-        ensures { result ≡ floor_seconds (instant (civil_of self.now) (offset_of self.now)) }
+        ensures value { result ≡ floor_seconds (instant (civil_of self.now) (offset_of self.now)) }
+        ensures unix { result ≡ unix_seconds (moment_of self.now) }
+        ensures range { IsBetween (neg_ℤ (pos 377_705_203_140)) (pos 253_402_387_139) result }
     {
         let civil = self.civil.to_plain();
         civil.to_second() - i64::from(self.offset_minutes) * 60
     }
+
     /// The date-time of the same offset that is so much later, or earlier for a duration below zero; None where its civil
     /// year would leave -9999 to 9999.
     pub fn checked_add(&self, duration: SignedDuration) -> Option<OffsetDateTime>

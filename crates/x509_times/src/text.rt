@@ -3,15 +3,17 @@
 ghost use Rattle.std.specs.Prelude.{◌≡◌, ◌<◌, Some};
 ghost use Rattle.x509_times.specs.Moments.{IsOffset};
 ghost use Rattle.x509_times.specs.Spelling.{two_digits};
-ghost use Rattle.x509_times.specs.TimeText.{in_two_places, month_name, clock_text, offset_text, time_text};
+ghost use Rattle.x509_times.specs.TimeText.{in_two_places, month_name, year_text, clock_text, offset_text, time_text};
 ghost use Rattle.x509_times.specs.OffsetDateTimes.{moment_of};
 
 use crate::offset_date_time::OffsetDateTime;
 use std::fmt;
 
 mod rfc2822;
+mod rfc3339;
 
 pub use rfc2822::Rfc2822;
+pub use rfc3339::Rfc3339;
 
 // A number below 100 in two digits.
 #[derive(Clone, Copy)]
@@ -70,6 +72,28 @@ fn name_of_month(month: u8) -> &'static str
         10 => "Oct",
         11 => "Nov",
         _ => "Dec",
+    }
+}
+
+// A year below 10000 in four digits.
+#[derive(Clone, Copy)]
+struct Year {
+    number: u16,
+    ghost small: { number < 10000 },
+}
+
+impl fmt::Display for Year {
+    ghost output = { λ y. Some (year_text y.number) };
+
+    #[tactic(auto, unfolding(crate::specs::TimeText::year_text))]
+    fn fmt<W: fmt::Write>(&self, f: &mut fmt::Formatter<W>) -> fmt::Result {
+        let high = TwoDigits {
+            number: (self.number / 100) as u8,
+        };
+        let low = TwoDigits {
+            number: (self.number % 100) as u8,
+        };
+        write!(f, "{high}{low}")
     }
 }
 

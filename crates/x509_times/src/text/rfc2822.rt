@@ -4,9 +4,9 @@ ghost use Rattle.std.specs.Prelude.{◌≡◌, ◌<◌, ◌≤ℤ◌, Some, pos,
 ghost use Rattle.jiff.specs.Words.{monday_zero};
 ghost use Rattle.x509_times.specs.Moments.{IsOffset};
 ghost use Rattle.x509_times.specs.OffsetDateTimes.{moment_of};
-ghost use Rattle.x509_times.specs.TimeText.{day_name, year_text, zone_text};
+ghost use Rattle.x509_times.specs.TimeText.{day_name, zone_text};
 
-use super::{TimeOfDay, TwoDigits, name_of_month};
+use super::{TimeOfDay, TwoDigits, Year, name_of_month};
 use crate::offset_date_time::OffsetDateTime;
 use jiff::civil::Weekday;
 use std::fmt;
@@ -23,28 +23,6 @@ fn name_of_day(day: Weekday) -> &'static str
         Weekday::Friday => "Fri",
         Weekday::Saturday => "Sat",
         Weekday::Sunday => "Sun",
-    }
-}
-
-// A year below 10000 in four digits.
-#[derive(Clone, Copy)]
-struct Year {
-    number: u16,
-    ghost small: { number < 10000 },
-}
-
-impl fmt::Display for Year {
-    ghost output = { λ y. Some (year_text y.number) };
-
-    #[tactic(auto, unfolding(crate::specs::TimeText::year_text))]
-    fn fmt<W: fmt::Write>(&self, f: &mut fmt::Formatter<W>) -> fmt::Result {
-        let high = TwoDigits {
-            number: (self.number / 100) as u8,
-        };
-        let low = TwoDigits {
-            number: (self.number % 100) as u8,
-        };
-        write!(f, "{high}{low}")
     }
 }
 

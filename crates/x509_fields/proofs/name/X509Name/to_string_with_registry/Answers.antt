@@ -1,13 +1,14 @@
-use Rattle.std.proofs.Common.{sym, ◌∙◌, refl, inr}
+use Rattle.std.proofs.Common.{sym, ap, ◌∙◌, Some, refl, inr}
 use Rattle.x509_fields.specs.Names.{name_of}
 use Rattle.x509_objects.specs.Registry.{name_by}
-use Rattle.x509_fields.proofs.Present.{name_there, not_there, made}
+use Rattle.x509_fields.proofs.Lossy.{name_whole, whole_there}
+use Rattle.x509_fields.proofs.Present.{name_there, not_there}
 use Rattle.x509_fields.proofs.name.X509Name.to_string_with_registry.Goals as goal
 
 pub returns-in_ok-format : goal.returns-in_ok-format
 returns-in_ok-format c =
     let there = name_there (name_by c.args.registry.now) (name_of c.args.self.now) ∙ sym c.all_have_texts.ensures ∙ c.if-all_have_texts.true in
-    made _ _ there c.in_ok-format.ensures.ok
+    whole_there _ _ (name_whole (name_by c.args.registry.now) (name_of c.args.self.now)) there ∙ ap (λ t. Some t) (sym c.in_ok-format.ensures.ok)
 
 pub returns-else-all_have_texts : goal.returns-else-all_have_texts
 returns-else-all_have_texts c =

@@ -1,15 +1,15 @@
 use Rattle.std.proofs.Common.{sym, ◌∙◌}
 use Rattle.std.proofs.Output.{has_written_of_eq}
 use Rattle.x509_fields.specs.Names.{name_of}
-use Rattle.x509_fields.proofs.Present.{name_there, shown, not_shown}
-use Rattle.x509_fields.proofs.Written.{writes_some}
+use Rattle.x509_fields.proofs.Lossy.{name_whole, shown_whole}
+use Rattle.x509_fields.proofs.Present.{name_there, not_shown}
 use Rattle.x509_objects.specs.Objects.{registered_name}
 use Rattle.x509_fields.proofs.name_text.X509NameDisplay.fmt.Goals as goal
 
 pub returns-then-all_have_texts-clause-writes : goal.returns-then-all_have_texts-clause-writes
-returns-then-all_have_texts-clause-writes g c =
+returns-then-all_have_texts-clause-writes g c = λ plain ok.
     let there = name_there registered_name (name_of c.args.self.now) ∙ sym c.all_have_texts.ensures ∙ c.if-all_have_texts.true in
-    writes_some _ _ _ c.write_name.result _ _ (shown _ _ there) c.write_name.ensures
+    has_written_of_eq _ _ _ _ _ (shown_whole _ _ _ (name_whole registered_name (name_of c.args.self.now)) there) (c.write_name.ensures plain ok)
 
 pub returns-else-all_have_texts-clause-writes : goal.returns-else-all_have_texts-clause-writes
 returns-else-all_have_texts-clause-writes g c = λ plain ok.

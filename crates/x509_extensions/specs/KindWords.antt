@@ -1,0 +1,30 @@
+-- A word for what the value of an extension is.
+use Rattle.std.specs.Prelude.{ℕ, List, codes}
+use Rattle.x509_extensions.specs.Parsed.{Parsed, Unsupported, Failed, Unparsed, SubjectKeyIdentifier, KeyUsage, SubjectAlternativeName, IssuerAlternativeName, BasicConstraints, CRLNumber, ReasonCode, InvalidityDate, IssuingDistributionPoint, NameConstraints, CRLDistributionPoints, CertificatePolicies, PolicyMappings, AuthorityKeyIdentifier, PolicyConstraints, ExtendedKeyUsage, InhibitAnyPolicy, AuthorityInfoAccess, SubjectInfoAccess, SCT, NSCertType, NsCertComment}
+
+abbrev pub kind_word : Parsed → List ℕ
+kind_word (Unsupported id) = codes "unsupported"
+kind_word (Failed e) = codes "refused"
+kind_word Unparsed = codes "unparsed"
+kind_word (SubjectKeyIdentifier v) = codes "subject_key_identifier"
+kind_word (KeyUsage v) = codes "key_usage"
+kind_word (SubjectAlternativeName v) = codes "subject_alternative_name"
+kind_word (IssuerAlternativeName v) = codes "issuer_alternative_name"
+kind_word (BasicConstraints v) = codes "basic_constraints"
+kind_word (CRLNumber v) = codes "crl_number"
+kind_word (ReasonCode v) = codes "reason_code"
+kind_word (InvalidityDate v) = codes "invalidity_date"
+kind_word (IssuingDistributionPoint v) = codes "issuing_distribution_point"
+kind_word (NameConstraints v) = codes "name_constraints"
+kind_word (CRLDistributionPoints v) = codes "crl_distribution_points"
+kind_word (CertificatePolicies v) = codes "certificate_policies"
+kind_word (PolicyMappings v) = codes "policy_mappings"
+kind_word (AuthorityKeyIdentifier v) = codes "authority_key_identifier"
+kind_word (PolicyConstraints v) = codes "policy_constraints"
+kind_word (ExtendedKeyUsage v) = codes "extended_key_usage"
+kind_word (InhibitAnyPolicy v) = codes "inhibit_any_policy"
+kind_word (AuthorityInfoAccess v) = codes "authority_info_access"
+kind_word (SubjectInfoAccess v) = codes "subject_info_access"
+kind_word (SCT v) = codes "sct_list"
+kind_word (NSCertType v) = codes "ns_cert_type"
+kind_word (NsCertComment v) = codes "ns_comment"

@@ -1,0 +1,474 @@
+//! Extensions, and the identifiers in their values.
+
+use super::Named;
+
+/// Purposes of keys.
+pub(super) const PURPOSES: [Named; 28] = [
+    // RFC 5280, section 4.2.1.12
+    (
+        &[0x55, 0x1d, 0x25, 0x00],
+        "anyExtendedKeyUsage",
+        "Any Extended Key Usage",
+    ),
+    (
+        &[0x2b, 0x06, 0x01, 0x05, 0x05, 0x07, 0x03, 0x01],
+        "serverAuth",
+        "TLS Server Authentication",
+    ),
+    (
+        &[0x2b, 0x06, 0x01, 0x05, 0x05, 0x07, 0x03, 0x02],
+        "clientAuth",
+        "TLS Client Authentication",
+    ),
+    (
+        &[0x2b, 0x06, 0x01, 0x05, 0x05, 0x07, 0x03, 0x03],
+        "codeSigning",
+        "Code Signing",
+    ),
+    (
+        &[0x2b, 0x06, 0x01, 0x05, 0x05, 0x07, 0x03, 0x04],
+        "emailProtection",
+        "E-mail Protection",
+    ),
+    (
+        &[0x2b, 0x06, 0x01, 0x05, 0x05, 0x07, 0x03, 0x08],
+        "timeStamping",
+        "Time Stamping",
+    ),
+    (
+        &[0x2b, 0x06, 0x01, 0x05, 0x05, 0x07, 0x03, 0x09],
+        "OCSPSigning",
+        "OCSP Signing",
+    ),
+    // RFC 2459
+    (
+        &[0x2b, 0x06, 0x01, 0x05, 0x05, 0x07, 0x03, 0x05],
+        "ipsecEndSystem",
+        "IPsec End System",
+    ),
+    (
+        &[0x2b, 0x06, 0x01, 0x05, 0x05, 0x07, 0x03, 0x06],
+        "ipsecTunnel",
+        "IPsec Tunnel",
+    ),
+    (
+        &[0x2b, 0x06, 0x01, 0x05, 0x05, 0x07, 0x03, 0x07],
+        "ipsecUser",
+        "IPsec User",
+    ),
+    // RFC 4334
+    (
+        &[0x2b, 0x06, 0x01, 0x05, 0x05, 0x07, 0x03, 0x0d],
+        "eapOverPPP",
+        "EAP over PPP",
+    ),
+    (
+        &[0x2b, 0x06, 0x01, 0x05, 0x05, 0x07, 0x03, 0x0e],
+        "eapOverLAN",
+        "EAP over LAN",
+    ),
+    // RFC 4945
+    (
+        &[0x2b, 0x06, 0x01, 0x05, 0x05, 0x07, 0x03, 0x11],
+        "ipsecIKE",
+        "IPsec Internet Key Exchange",
+    ),
+    // RFC 5924
+    (
+        &[0x2b, 0x06, 0x01, 0x05, 0x05, 0x07, 0x03, 0x14],
+        "sipDomain",
+        "SIP Domain",
+    ),
+    // RFC 6187
+    (
+        &[0x2b, 0x06, 0x01, 0x05, 0x05, 0x07, 0x03, 0x15],
+        "secureShellClient",
+        "SSH Client",
+    ),
+    (
+        &[0x2b, 0x06, 0x01, 0x05, 0x05, 0x07, 0x03, 0x16],
+        "secureShellServer",
+        "SSH Server",
+    ),
+    // RFC 8209
+    (
+        &[0x2b, 0x06, 0x01, 0x05, 0x05, 0x07, 0x03, 0x1e],
+        "bgpsec-router",
+        "BGPsec Router",
+    ),
+    // RFC 9336
+    (
+        &[0x2b, 0x06, 0x01, 0x05, 0x05, 0x07, 0x03, 0x24],
+        "documentSigning",
+        "Document Signing",
+    ),
+    // RFC 4556
+    (
+        &[0x2b, 0x06, 0x01, 0x05, 0x02, 0x03, 0x04],
+        "pkInitClientAuth",
+        "Kerberos Client Authentication",
+    ),
+    (
+        &[0x2b, 0x06, 0x01, 0x05, 0x02, 0x03, 0x05],
+        "pkInitKDC",
+        "Kerberos Key Distribution Center",
+    ),
+    // RFC 6962, section 3.1
+    (
+        &[0x2b, 0x06, 0x01, 0x04, 0x01, 0xd6, 0x79, 0x02, 0x04, 0x04],
+        "ctPrecertSigning",
+        "CT Precertificate Signing",
+    ),
+    // Microsoft and Netscape
+    (
+        &[0x2b, 0x06, 0x01, 0x04, 0x01, 0x82, 0x37, 0x02, 0x01, 0x15],
+        "msCodeInd",
+        "Microsoft Individual Code Signing",
+    ),
+    (
+        &[0x2b, 0x06, 0x01, 0x04, 0x01, 0x82, 0x37, 0x02, 0x01, 0x16],
+        "msCodeCom",
+        "Microsoft Commercial Code Signing",
+    ),
+    (
+        &[0x2b, 0x06, 0x01, 0x04, 0x01, 0x82, 0x37, 0x0a, 0x03, 0x01],
+        "msCTLSign",
+        "Microsoft Trust List Signing",
+    ),
+    (
+        &[0x2b, 0x06, 0x01, 0x04, 0x01, 0x82, 0x37, 0x0a, 0x03, 0x03],
+        "msSGC",
+        "Microsoft Server Gated Crypto",
+    ),
+    (
+        &[0x2b, 0x06, 0x01, 0x04, 0x01, 0x82, 0x37, 0x0a, 0x03, 0x04],
+        "msEFS",
+        "Microsoft Encrypted File System",
+    ),
+    (
+        &[0x2b, 0x06, 0x01, 0x04, 0x01, 0x82, 0x37, 0x14, 0x02, 0x02],
+        "msSmartcardLogin",
+        "Microsoft Smart Card Login",
+    ),
+    (
+        &[0x60, 0x86, 0x48, 0x01, 0x86, 0xf8, 0x42, 0x04, 0x01],
+        "nsSGC",
+        "Netscape Server Gated Crypto",
+    ),
+];
+
+/// Extensions.
+pub(super) const EXTENSIONS: [Named; 33] = [
+    // RFC 5280, sections 4.2 to 5.3
+    (
+        &[0x55, 0x1d, 0x09],
+        "subjectDirectoryAttributes",
+        "Subject Directory Attributes",
+    ),
+    (
+        &[0x55, 0x1d, 0x1b],
+        "deltaCRLIndicator",
+        "Delta CRL Indicator",
+    ),
+    (
+        &[0x55, 0x1d, 0x1d],
+        "certificateIssuer",
+        "Certificate Issuer",
+    ),
+    (&[0x55, 0x1d, 0x2e], "freshestCRL", "Freshest CRL"),
+    // RFC 3280
+    (
+        &[0x55, 0x1d, 0x10],
+        "privateKeyUsagePeriod",
+        "Private Key Usage Period",
+    ),
+    (
+        &[0x55, 0x1d, 0x17],
+        "holdInstructionCode",
+        "Hold Instruction Code",
+    ),
+    // RFC 5755
+    (
+        &[0x55, 0x1d, 0x37],
+        "targetInformation",
+        "Target Information",
+    ),
+    (&[0x55, 0x1d, 0x38], "noRevAvail", "No Revocation Available"),
+    // RFC 3739
+    (
+        &[0x2b, 0x06, 0x01, 0x05, 0x05, 0x07, 0x01, 0x02],
+        "biometricInfo",
+        "Biometric Information",
+    ),
+    (
+        &[0x2b, 0x06, 0x01, 0x05, 0x05, 0x07, 0x01, 0x03],
+        "qcStatements",
+        "Qualified Certificate Statements",
+    ),
+    // RFC 3779
+    (
+        &[0x2b, 0x06, 0x01, 0x05, 0x05, 0x07, 0x01, 0x07],
+        "ipAddrBlocks",
+        "IP Address Blocks",
+    ),
+    (
+        &[0x2b, 0x06, 0x01, 0x05, 0x05, 0x07, 0x01, 0x08],
+        "autonomousSysIds",
+        "Autonomous System Identifiers",
+    ),
+    // RFC 9399
+    (
+        &[0x2b, 0x06, 0x01, 0x05, 0x05, 0x07, 0x01, 0x0c],
+        "logotype",
+        "Logotype",
+    ),
+    // RFC 3820
+    (
+        &[0x2b, 0x06, 0x01, 0x05, 0x05, 0x07, 0x01, 0x0e],
+        "proxyCertInfo",
+        "Proxy Certificate Information",
+    ),
+    // RFC 7633
+    (
+        &[0x2b, 0x06, 0x01, 0x05, 0x05, 0x07, 0x01, 0x18],
+        "tlsfeature",
+        "TLS Feature",
+    ),
+    // RFC 8737
+    (
+        &[0x2b, 0x06, 0x01, 0x05, 0x05, 0x07, 0x01, 0x1f],
+        "acmeIdentifier",
+        "ACME Identifier",
+    ),
+    // RFC 6960
+    (
+        &[0x2b, 0x06, 0x01, 0x05, 0x05, 0x07, 0x30, 0x01, 0x01],
+        "basicOCSPResponse",
+        "Basic OCSP Response",
+    ),
+    (
+        &[0x2b, 0x06, 0x01, 0x05, 0x05, 0x07, 0x30, 0x01, 0x02],
+        "ocspNonce",
+        "OCSP Nonce",
+    ),
+    (
+        &[0x2b, 0x06, 0x01, 0x05, 0x05, 0x07, 0x30, 0x01, 0x03],
+        "ocspCRL",
+        "OCSP CRL References",
+    ),
+    (
+        &[0x2b, 0x06, 0x01, 0x05, 0x05, 0x07, 0x30, 0x01, 0x04],
+        "acceptableResponses",
+        "OCSP Acceptable Responses",
+    ),
+    (
+        &[0x2b, 0x06, 0x01, 0x05, 0x05, 0x07, 0x30, 0x01, 0x05],
+        "ocspNoCheck",
+        "OCSP No Check",
+    ),
+    (
+        &[0x2b, 0x06, 0x01, 0x05, 0x05, 0x07, 0x30, 0x01, 0x06],
+        "ocspArchiveCutoff",
+        "OCSP Archive Cutoff",
+    ),
+    (
+        &[0x2b, 0x06, 0x01, 0x05, 0x05, 0x07, 0x30, 0x01, 0x07],
+        "ocspServiceLocator",
+        "OCSP Service Locator",
+    ),
+    // RFC 6962, sections 3.1 and 3.3
+    (
+        &[0x2b, 0x06, 0x01, 0x04, 0x01, 0xd6, 0x79, 0x02, 0x04, 0x03],
+        "ctPoison",
+        "CT Precertificate Poison",
+    ),
+    (
+        &[0x2b, 0x06, 0x01, 0x04, 0x01, 0xd6, 0x79, 0x02, 0x04, 0x05],
+        "ctOCSPSCTList",
+        "CT Timestamps of an OCSP Response",
+    ),
+    // Netscape Certificate Extensions
+    (
+        &[0x60, 0x86, 0x48, 0x01, 0x86, 0xf8, 0x42, 0x01, 0x02],
+        "nsBaseUrl",
+        "Netscape Base URL",
+    ),
+    (
+        &[0x60, 0x86, 0x48, 0x01, 0x86, 0xf8, 0x42, 0x01, 0x03],
+        "nsRevocationUrl",
+        "Netscape Revocation URL",
+    ),
+    (
+        &[0x60, 0x86, 0x48, 0x01, 0x86, 0xf8, 0x42, 0x01, 0x04],
+        "nsCaRevocationUrl",
+        "Netscape CA Revocation URL",
+    ),
+    (
+        &[0x60, 0x86, 0x48, 0x01, 0x86, 0xf8, 0x42, 0x01, 0x07],
+        "nsRenewalUrl",
+        "Netscape Renewal URL",
+    ),
+    (
+        &[0x60, 0x86, 0x48, 0x01, 0x86, 0xf8, 0x42, 0x01, 0x08],
+        "nsCaPolicyUrl",
+        "Netscape CA Policy URL",
+    ),
+    (
+        &[0x60, 0x86, 0x48, 0x01, 0x86, 0xf8, 0x42, 0x01, 0x0c],
+        "nsSslServerName",
+        "Netscape SSL Server Name",
+    ),
+    // CA/Browser Forum, guidelines for extended validation
+    (
+        &[0x67, 0x81, 0x0c, 0x01, 0x1f],
+        "cabfTorServiceDescriptor",
+        "Tor Service Descriptor",
+    ),
+    (
+        &[0x67, 0x81, 0x0c, 0x03, 0x01],
+        "cabfOrganizationIdentifier",
+        "CA/Browser Forum Organization Identifier",
+    ),
+];
+
+/// Access methods, policies and their qualifiers.
+pub(super) const ACCESSES_AND_POLICIES: [Named; 27] = [
+    // RFC 5280, section 4.2.2.2
+    (
+        &[0x2b, 0x06, 0x01, 0x05, 0x05, 0x07, 0x30, 0x03],
+        "adTimeStamping",
+        "Time Stamping Service",
+    ),
+    (
+        &[0x2b, 0x06, 0x01, 0x05, 0x05, 0x07, 0x30, 0x05],
+        "caRepository",
+        "CA Repository",
+    ),
+    // RFC 6487
+    (
+        &[0x2b, 0x06, 0x01, 0x05, 0x05, 0x07, 0x30, 0x0a],
+        "rpkiManifest",
+        "RPKI Manifest",
+    ),
+    (
+        &[0x2b, 0x06, 0x01, 0x05, 0x05, 0x07, 0x30, 0x0b],
+        "signedObject",
+        "RPKI Signed Object",
+    ),
+    // RFC 8182
+    (
+        &[0x2b, 0x06, 0x01, 0x05, 0x05, 0x07, 0x30, 0x0d],
+        "rpkiNotify",
+        "RPKI Update Notification",
+    ),
+    // RFC 5280, section 4.2.1.4
+    (&[0x55, 0x1d, 0x20, 0x00], "anyPolicy", "Any Policy"),
+    (
+        &[0x2b, 0x06, 0x01, 0x05, 0x05, 0x07, 0x02, 0x01],
+        "cps",
+        "Certification Practice Statement",
+    ),
+    (
+        &[0x2b, 0x06, 0x01, 0x05, 0x05, 0x07, 0x02, 0x02],
+        "unotice",
+        "User Notice",
+    ),
+    // CA/Browser Forum, policies of TLS server certificates
+    (
+        &[0x67, 0x81, 0x0c, 0x01, 0x01],
+        "extended-validation",
+        "Extended Validation",
+    ),
+    (
+        &[0x67, 0x81, 0x0c, 0x01, 0x02, 0x01],
+        "domain-validated",
+        "Domain Validated",
+    ),
+    (
+        &[0x67, 0x81, 0x0c, 0x01, 0x02, 0x02],
+        "organization-validated",
+        "Organization Validated",
+    ),
+    (
+        &[0x67, 0x81, 0x0c, 0x01, 0x02, 0x03],
+        "individual-validated",
+        "Individual Validated",
+    ),
+    // CA/Browser Forum, policies of code signing certificates
+    (
+        &[0x67, 0x81, 0x0c, 0x01, 0x03],
+        "ev-code-signing",
+        "Extended Validation Code Signing",
+    ),
+    (
+        &[0x67, 0x81, 0x0c, 0x01, 0x04, 0x01],
+        "code-signing",
+        "Code Signing Requirements",
+    ),
+    (
+        &[0x67, 0x81, 0x0c, 0x01, 0x04, 0x02],
+        "code-signing-timestamping",
+        "Code Signing Time Stamping",
+    ),
+    // CA/Browser Forum, policies of S/MIME certificates
+    (
+        &[0x67, 0x81, 0x0c, 0x01, 0x05, 0x01, 0x01],
+        "smime-mailbox-validated-legacy",
+        "S/MIME Mailbox Validated, Legacy",
+    ),
+    (
+        &[0x67, 0x81, 0x0c, 0x01, 0x05, 0x01, 0x02],
+        "smime-mailbox-validated-multipurpose",
+        "S/MIME Mailbox Validated, Multipurpose",
+    ),
+    (
+        &[0x67, 0x81, 0x0c, 0x01, 0x05, 0x01, 0x03],
+        "smime-mailbox-validated-strict",
+        "S/MIME Mailbox Validated, Strict",
+    ),
+    (
+        &[0x67, 0x81, 0x0c, 0x01, 0x05, 0x02, 0x01],
+        "smime-organization-validated-legacy",
+        "S/MIME Organization Validated, Legacy",
+    ),
+    (
+        &[0x67, 0x81, 0x0c, 0x01, 0x05, 0x02, 0x02],
+        "smime-organization-validated-multipurpose",
+        "S/MIME Organization Validated, Multipurpose",
+    ),
+    (
+        &[0x67, 0x81, 0x0c, 0x01, 0x05, 0x02, 0x03],
+        "smime-organization-validated-strict",
+        "S/MIME Organization Validated, Strict",
+    ),
+    (
+        &[0x67, 0x81, 0x0c, 0x01, 0x05, 0x03, 0x01],
+        "smime-sponsor-validated-legacy",
+        "S/MIME Sponsor Validated, Legacy",
+    ),
+    (
+        &[0x67, 0x81, 0x0c, 0x01, 0x05, 0x03, 0x02],
+        "smime-sponsor-validated-multipurpose",
+        "S/MIME Sponsor Validated, Multipurpose",
+    ),
+    (
+        &[0x67, 0x81, 0x0c, 0x01, 0x05, 0x03, 0x03],
+        "smime-sponsor-validated-strict",
+        "S/MIME Sponsor Validated, Strict",
+    ),
+    (
+        &[0x67, 0x81, 0x0c, 0x01, 0x05, 0x04, 0x01],
+        "smime-individual-validated-legacy",
+        "S/MIME Individual Validated, Legacy",
+    ),
+    (
+        &[0x67, 0x81, 0x0c, 0x01, 0x05, 0x04, 0x02],
+        "smime-individual-validated-multipurpose",
+        "S/MIME Individual Validated, Multipurpose",
+    ),
+    (
+        &[0x67, 0x81, 0x0c, 0x01, 0x05, 0x04, 0x03],
+        "smime-individual-validated-strict",
+        "S/MIME Individual Validated, Strict",
+    ),
+];

@@ -1,0 +1,114 @@
+//! The command line.
+
+use clap::{Arg, ArgAction, ArgMatches, Command, Error};
+use std::alloc::{AllocError, Global};
+use x509_report_objects::Wishes;
+
+/// How reports are written.
+#[derive(Clone, Copy, Debug, PartialEq, Eq)]
+pub enum Form {
+    /// Lines for people.
+    Text,
+    /// One line of JSON an object.
+    Json,
+}
+
+/// What is asked of every object.
+#[derive(Clone, Copy, Debug)]
+pub struct Asked {
+    /// What is wanted of a report.
+    pub wishes: Wishes,
+    /// Whether each entry of a list gets a line of its own.
+    pub entries: bool,
+}
+
+/// What the command line asks for.
+#[derive(Drop)]
+pub struct Options<'a> {
+    /// How reports are written.
+    pub form: Form,
+    /// What is asked of every object.
+    pub asked: Asked,
+    /// The files in order; `-` is standard input.
+    pub files: Vec<&'a str>,
+}
+
+/// The words behind `--kind`.
+static KINDS: [&str; 4] = ["any", "certificate", "list", "request"];
+
+fn flag<'a>(alloc: Global, name: &'a str, help: &'a str) -> Arg<'a> {
+    Arg::new(alloc, name)
+        .long(name)
+        .action(ArgAction::SetTrue)
+        .help(help)
+}
+
+fn command<'a>(alloc: Global) -> Result<Command<'a>, AllocError> {
+    let text = flag(alloc, "text", "Lines for people, the default");
+    let json = flag(alloc, "json", "One line of JSON an object");
+    let strict = flag(alloc, "strict", "Refuse what a lenient rule was needed for");
+    let entries = flag(alloc, "entries", "A line for each entry of a list");
+    let no_digest = flag(alloc, "no-digest", "Leave SHA-256 fingerprints out");
+    let kind = Arg::new(alloc, "kind")
+        .long("kind")
+        .action(ArgAction::Set)
+        .value_parser(KINDS.as_slice())
+        .default_value("any")
+        .help("What the objects are");
+    let file = Arg::new(alloc, "FILE")
+        .action(ArgAction::Append)
+        .num_args(0..)
+        .help("Files of PEM or DER; none or -: standard input");
+    Command::new(alloc, "x509_report")
+        .version("1")
+        .about("Everything that certificates, lists of revoked ones and requests say")
+        .arg(text)?
+        .arg(json)?
+        .arg(strict)?
+        .arg(entries)?
+        .arg(no_digest)?
+        .arg(kind)?
+        .arg(file)
+}
+
+fn files_of<'a>(alloc: Global, matches: &ArgMatches<'a>) -> Result<Vec<&'a str>, AllocError> {
+    match matches.get_strs("FILE") {
+        Some(files) if !files.is_empty() => files.to_vec(alloc),
+        _ => {
+            let mut files = Vec::new(alloc);
+            files.push("-")?;
+            Ok(files)
+        }
+    }
+}
+
+fn wishes_of(matches: &ArgMatches<'_>) -> Wishes {
+    let kind = matches.get_str("kind").unwrap_or("any");
+    let any = kind == "any";
+    Wishes {
+        certificates: any || kind == "certificate",
+        lists: any || kind == "list",
+        requests: any || kind == "request",
+        strict: matches.get_flag("strict"),
+        fingerprints: !matches.get_flag("no-digest"),
+    }
+}
+
+/// The options of these words, the first of which is the program's name. Where both forms are asked for, it is JSON.
+pub fn parse_options<'a>(alloc: Global, words: &'a [String]) -> Result<Options<'a>, Error> {
+    let matches = command(alloc)?.try_get_matches_from(words)?;
+    let files = files_of(alloc, &matches)?;
+    let form = if matches.get_flag("json") {
+        Form::Json
+    } else {
+        Form::Text
+    };
+    Ok(Options {
+        form,
+        asked: Asked {
+            wishes: wishes_of(&matches),
+            entries: matches.get_flag("entries"),
+        },
+        files,
+    })
+}

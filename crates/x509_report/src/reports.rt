@@ -1,0 +1,143 @@
+//! The lines of an object.
+
+ghost use Rattle.std.specs.Prelude.{◌≡◌, IfOk, OnOk};
+ghost use Rattle.std.specs.Io.KnownBytes.{Appends};
+ghost use Rattle.x509_lists.specs.RevokedCertificate.{revoked_of};
+ghost use Rattle.x509_report_objects.specs.Attempts.{found_of, wishes_of};
+ghost use Rattle.x509_report_objects.specs.Lists.{entry_report};
+ghost use Rattle.x509_report_objects.specs.Objects.{failed_report, object_told, skipped_report};
+ghost use Rattle.x509_report.specs.Texts.{said};
+
+use crate::options::Asked;
+use crate::printer::Printer;
+use crate::stop::Stop;
+use sha2::{Digest, Sha256};
+use std::alloc::Global;
+use std::io::Write;
+use x509_lists::{RevokedCertificate, parse_x509_crl};
+use x509_report_objects::{
+    Found, Kind, Wishes, entry_line, failed_line, object_line, skipped_line,
+};
+
+/// The line of an entry of a list.
+fn report_entry<W: Write>(
+    alloc: Global,
+    printer: &mut Printer<W>,
+    place: &Found<'_>,
+    fingerprint: &Option<[u8; 32]>,
+    number: u64,
+    entry: &RevokedCertificate<'_>,
+) -> Result<(), Stop>
+    ensures text { OnOk result (Appends (W.contents printer.old.out) (W.contents printer.new.out) (said printer.old.form (entry_report (found_of place.now) fingerprint.now number (revoked_of entry.now)))) }
+    ensures form { printer.new.form ≡ printer.old.form }
+{
+    let mut line = printer.line(alloc);
+    entry_line(alloc, &mut line, place, fingerprint, number, entry)?;
+    printer.put(alloc, line)
+}
+
+/// A line for each of the entries.
+fn report_each<W: Write>(
+    alloc: Global,
+    printer: &mut Printer<W>,
+    place: &Found<'_>,
+    fingerprint: &Option<[u8; 32]>,
+    entries: &[RevokedCertificate<'_>],
+) -> Result<(), Stop> {
+    let mut number = 0_u64;
+    for entry in entries {
+        report_entry(alloc, printer, place, fingerprint, number, entry)?;
+        number = number.saturating_add(1);
+    }
+    Ok(())
+}
+
+/// A line for each entry of a list.
+fn report_entries<W: Write>(
+    alloc: Global,
+    printer: &mut Printer<W>,
+    fingerprints: bool,
+    place: &Found<'_>,
+    octets: &[u8],
+) -> Result<(), Stop> {
+    let fingerprint = if fingerprints {
+        Some(Sha256::digest(octets))
+    } else {
+        None
+    };
+    match parse_x509_crl(alloc, octets) {
+        Ok((_, list)) => {
+            let entries = list.tbs_cert_list.revoked_certificates.as_slice();
+            report_each(alloc, printer, place, &fingerprint, entries)
+        }
+        Err(refusal) if refusal.is_out_of_memory() => Err(Stop::Memory),
+        Err(_) => Ok(()),
+    }
+}
+
+/// The line of the object at the front of the octets. Tells which kind it is; None where it was refused.
+fn report_line<W: Write>(
+    alloc: Global,
+    printer: &mut Printer<W>,
+    wishes: &Wishes,
+    place: &Found<'_>,
+    octets: &[u8],
+) -> Result<Option<Kind>, Stop>
+    ensures kind { IfOk result (λ kind. kind ≡ (object_told (wishes_of wishes.now) (found_of place.now) octets.now).0) }
+    ensures text { OnOk result (Appends (W.contents printer.old.out) (W.contents printer.new.out) (said printer.old.form (object_told (wishes_of wishes.now) (found_of place.now) octets.now).1)) }
+    ensures form { printer.new.form ≡ printer.old.form }
+{
+    let mut line = printer.line(alloc);
+    let kind = object_line(alloc, &mut line, wishes, place, octets)?;
+    printer.put(alloc, line)?;
+    Ok(kind)
+}
+
+/// The line of the object at the front of the octets, and where that is asked for those of its entries. Tells whether it was taken.
+pub fn report_object<W: Write>(
+    alloc: Global,
+    printer: &mut Printer<W>,
+    asked: &Asked,
+    place: &Found<'_>,
+    octets: &[u8],
+) -> Result<bool, Stop> {
+    let kind = report_line(alloc, printer, &asked.wishes, place, octets)?;
+    if asked.entries && kind == Some(Kind::List) {
+        report_entries(alloc, printer, asked.wishes.fingerprints, place, octets)?;
+    }
+    Ok(kind.is_some())
+}
+
+/// The line of octets that can't be read as objects, with what was tried and why it failed.
+pub fn report_failed<W: Write>(
+    alloc: Global,
+    printer: &mut Printer<W>,
+    asked: &Asked,
+    place: &Found<'_>,
+    octets: &[u8],
+    kind: &str,
+    word: &str,
+) -> Result<(), Stop>
+    ensures text { OnOk result (Appends (W.contents printer.old.out) (W.contents printer.new.out) (said printer.old.form (failed_report (wishes_of asked.now.wishes) (found_of place.now) octets.now kind.now word.now))) }
+    ensures form { printer.new.form ≡ printer.old.form }
+{
+    let mut line = printer.line(alloc);
+    failed_line(alloc, &mut line, &asked.wishes, place, octets, kind, word)?;
+    printer.put(alloc, line)
+}
+
+/// The line of a block that holds none of the objects that are wanted.
+pub fn report_skipped<W: Write>(
+    alloc: Global,
+    printer: &mut Printer<W>,
+    asked: &Asked,
+    place: &Found<'_>,
+    octets: &[u8],
+) -> Result<(), Stop>
+    ensures text { OnOk result (Appends (W.contents printer.old.out) (W.contents printer.new.out) (said printer.old.form (skipped_report (wishes_of asked.now.wishes) (found_of place.now) octets.now))) }
+    ensures form { printer.new.form ≡ printer.old.form }
+{
+    let mut line = printer.line(alloc);
+    skipped_line(alloc, &mut line, &asked.wishes, place, octets)?;
+    printer.put(alloc, line)
+}

@@ -1,0 +1,5 @@
+pub mod Blocks
+pub mod Escape
+pub mod Flags
+pub mod Lines
+pub mod Says

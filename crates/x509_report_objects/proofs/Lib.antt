@@ -1,0 +1,4 @@
+pub mod Attempted
+pub mod OnlyParsed
+pub mod Counts
+pub mod Members

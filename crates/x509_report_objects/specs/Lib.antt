@@ -1,0 +1,7 @@
+pub mod Places
+pub mod Extensions
+pub mod Certificates
+pub mod Lists
+pub mod Requests
+pub mod Objects
+pub mod Attempts

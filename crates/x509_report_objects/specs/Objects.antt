@@ -1,0 +1,108 @@
+-- The line of an object: where it was found, and what the first reader says that takes it; or why none does.
+use Rattle.std.specs.Prelude.{ℕ, List, [], ◌∷◌, ◌++◌, codes, Bool, true, false, not, ◌&&◌, if◌then◌else◌, Option, Some, None, Result, Ok, Err, length}
+use Rattle.json.specs.Json.{Json, array, boolean, string}
+use Rattle.x509_der.specs.Plan.{Outcome}
+use Rattle.x509_der.specs.Words.{refusal_word}
+use Rattle.x509_der.specs.declared.error.Err.{Err as Refusal}
+use Rattle.x509_der.specs.declared.error.Err.TheVariants as refusals
+use Rattle.x509_fields.specs.declared.error.X509Error.{X509Error}
+use Rattle.x509_fields.specs.declared.error.X509Error.TheVariants.{Generic}
+use Rattle.x509_report_objects.specs.declared.objects.Kind.{Kind}
+use Rattle.x509_report_objects.specs.declared.objects.Kind.TheVariants as kinds
+use Rattle.x509_fields.specs.Errors.{x509_word}
+use Rattle.x509_certs.specs.Certificate.{Certificate, certificate}
+use Rattle.x509_lists.specs.CertificateList.{certificate_list}
+use Rattle.x509_lists.specs.TbsCertList.{TbsList}
+use Rattle.x509_requests.specs.Request.{certification_request}
+use Rattle.x509_requests.specs.RequestInfo.{RequestInfo}
+use Rattle.x509_signed.specs.Signed.{Signed}
+use Rattle.x509_report_lines.specs.Says.{count, items_of, list_of, record_of}
+use Rattle.x509_report_objects.specs.Certificates.{certificate_members}
+use Rattle.x509_report_objects.specs.Lists.{list_members}
+use Rattle.x509_report_objects.specs.Places.{Found, Wishes, place_members, octets_members}
+use Rattle.x509_report_objects.specs.Requests.{request_members}
+
+-- whether it stands plainly, and how many octets stand behind it
+abbrev pub standing_members : Bool → List ℕ → List (List ℕ × Json)
+standing_members plain rest = (codes "strict", boolean plain) ∷ (codes "behind", count (length rest)) ∷ []
+
+unfoldable pub object_report : List ℕ → Wishes → Found → List ℕ → Bool → List ℕ → List (List ℕ × Json) → Json
+object_report kind w p octets plain rest members = record_of (
+    place_members kind p ++ octets_members w.fingerprints p octets ++ standing_members plain rest ++ members)
+
+-- ---- which report stands for an object: that of the first reader that takes it
+
+-- what was tried, and why it failed
+abbrev pub attempt_report : List ℕ → List ℕ → Json
+attempt_report kind word = record_of ((codes "kind", string kind) ∷ (codes "word", string word) ∷ [])
+
+-- a reader that was tried, and why it refuses
+abbrev pub tried_report : List ℕ × Refusal X509Error → Json
+tried_report r = attempt_report r.0 (refusal_word x509_word r.1)
+
+abbrev pub tried_by : List ℕ → Option (Refusal X509Error) → List (List ℕ × Refusal X509Error)
+tried_by kind (Some e) = (kind, e) ∷ []
+tried_by kind None = []
+
+-- of each kind, why its reader refuses where it was tried
+pub record Tried : Type 0 where
+  pub certificate : Option (Refusal X509Error)
+  pub list : Option (Refusal X509Error)
+  pub request : Option (Refusal X509Error)
+
+abbrev pub all_tried : Tried → List (List ℕ × Refusal X509Error)
+all_tried t = tried_by (codes "certificate") t.certificate ++ tried_by (codes "list") t.list ++ tried_by (codes "request") t.request
+
+unfoldable pub refusal_report : Wishes → Found → List ℕ → Tried → Json
+refusal_report w p octets tried = record_of (
+    place_members (codes "refusal") p
+    ++ octets_members w.fingerprints p octets
+    ++ (codes "tried", list_of tried_report (all_tried tried)) ∷ [])
+
+-- of octets that no reader was given: what failed before
+unfoldable pub failed_report : Wishes → Found → List ℕ → List ℕ → List ℕ → Json
+failed_report w p octets kind word = record_of (
+    place_members (codes "refusal") p
+    ++ octets_members w.fingerprints p octets
+    ++ (codes "tried", array (items_of (attempt_report kind word ∷ []))) ∷ [])
+
+-- of a block that holds none of the objects that are wanted, by its label
+unfoldable pub skipped_report : Wishes → Found → List ℕ → Json
+skipped_report w p octets = record_of (place_members (codes "skipped") p ++ octets_members w.fingerprints p octets)
+
+-- what a reader says of the octets, or why it refuses
+abbrev pub Told : Type 0
+Told = Result Json (Refusal X509Error)
+
+-- where only plain objects are wanted, another is refused as the strict readers refuse it
+abbrev pub told_by : Wishes → Bool → Json → Told
+told_by w plain report = if w.strict && not plain then Err (refusals.Error Generic) else Ok report
+
+abbrev pub certificate_told : Wishes → Found → List ℕ → Outcome (Refusal X509Error) Certificate → Told
+certificate_told w p octets (Ok x) = told_by w ((certificate true).marks octets) (object_report (codes "certificate") w p octets ((certificate true).marks octets) x.0 (certificate_members w.fingerprints x.1))
+certificate_told w p octets (Err e) = Err e
+
+abbrev pub list_told : Wishes → Found → List ℕ → Outcome (Refusal X509Error) (Signed TbsList) → Told
+list_told w p octets (Ok x) = told_by w (certificate_list.marks octets) (object_report (codes "list") w p octets (certificate_list.marks octets) x.0 (list_members x.1))
+list_told w p octets (Err e) = Err e
+
+abbrev pub request_told : Wishes → Found → List ℕ → Outcome (Refusal X509Error) (Signed RequestInfo) → Told
+request_told w p octets (Ok x) = told_by w (certification_request.marks octets) (object_report (codes "request") w p octets (certification_request.marks octets) x.0 (request_members w.fingerprints x.1))
+request_told w p octets (Err e) = Err e
+
+-- the reader's report with its kind, or what comes next behind its refusal
+abbrev pub or_next : Kind → Told → (Option (Refusal X509Error) → Option Kind × Json) → Option Kind × Json
+or_next kind (Ok report) next = (Some kind, report)
+or_next kind (Err e) next = next (Some e)
+
+abbrev pub first_of : Bool → Kind → Told → (Option (Refusal X509Error) → Option Kind × Json) → Option Kind × Json
+first_of true kind told next = or_next kind told next
+first_of false kind told next = next None
+
+-- which kind it is, where a reader takes it, and its line
+unfoldable pub object_told : Wishes → Found → List ℕ → Option Kind × Json
+object_told w p octets =
+    first_of w.certificates kinds.Certificate (certificate_told w p octets ((certificate true).read octets)) λ first.
+    first_of w.lists kinds.List (list_told w p octets (certificate_list.read octets)) λ second.
+    first_of w.requests kinds.Request (request_told w p octets (certification_request.read octets)) λ third.
+    (None, refusal_report w p octets (record { certificate = first; list = second; request = third }))

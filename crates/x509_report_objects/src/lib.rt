@@ -1,0 +1,14 @@
+//! What reports say of certificates, of lists of revoked certificates and their entries, and of requests.
+#![tactic(auto)]
+
+mod certificates;
+mod extensions;
+mod lists;
+mod objects;
+mod requests;
+mod summary;
+
+pub use certificates::certificate_members;
+pub use lists::{entry_line, list_members};
+pub use objects::{Found, Kind, Wishes, failed_line, object_line, skipped_line};
+pub use requests::request_members;

@@ -1,0 +1,458 @@
+//! The line of an object, whatever it is.
+
+ghost use Rattle.std.specs.Prelude.{◌≡◌, ◌∷◌, [], true, codes, length, IfOk, OnOk};
+ghost use Rattle.json.specs.Json.{array, string};
+ghost use Rattle.x509_certs.specs.Certificate.{certificate, certificate_of};
+ghost use Rattle.x509_lists.specs.CertificateList.{certificate_list, list_of};
+ghost use Rattle.x509_requests.specs.Request.{certification_request, certification_request_of};
+ghost use Rattle.x509_report_lines.specs.Says.{Says, SaysEach, SaysMembers, SaysUnder, count, items_of, list_of as array_of, optional, written};
+ghost use Rattle.x509_report_objects.specs.Objects.{all_tried, attempt_report, certificate_told, failed_report, list_told, object_told, object_report, refusal_report, request_told, skipped_report, standing_members, tried_by, tried_report};
+ghost use Rattle.x509_report_objects.specs.Certificates.{certificate_members};
+ghost use Rattle.x509_report_objects.specs.Lists.{list_members};
+ghost use Rattle.x509_report_objects.specs.Requests.{request_members};
+ghost use Rattle.x509_report_objects.specs.Places.{octets_members, place_members};
+ghost use Rattle.x509_report_objects.specs.Attempts.{Attempts, found_of, tried_of, wishes_of};
+
+use crate::certificates::certificate_members;
+use crate::lists::list_members;
+use crate::requests::request_members;
+use std::alloc::{AllocError, Global};
+use x509_certs::{X509Certificate, parse_x509_certificate_marked};
+use x509_der::Err;
+use x509_fields::X509Error;
+use x509_lists::{CertificateRevocationList, parse_x509_crl_marked};
+use x509_report_lines::Line;
+use x509_report_values::{
+    count_under, fingerprint_under, optional_text_under, text_under, truth_under,
+};
+use x509_requests::{X509CertificationRequest, parse_x509_csr_marked};
+
+/// Where an object was found.
+#[derive(Clone, Copy, Debug)]
+pub struct Found<'a> {
+    /// The file; `-` is standard input.
+    pub file: &'a str,
+    /// Which object of the file it is, from 0.
+    pub index: u64,
+    /// Its first octet in the file; of PEM, that of its BEGIN line.
+    pub offset: u64,
+    /// The label of its PEM block.
+    pub label: Option<&'a str>,
+}
+
+/// What is wanted of a report.
+#[derive(Clone, Copy, Debug)]
+pub struct Wishes {
+    /// Whether an object may be a certificate.
+    pub certificates: bool,
+    /// Whether it may be a list of revoked certificates.
+    pub lists: bool,
+    /// Whether it may be a request.
+    pub requests: bool,
+    /// Whether only objects are taken that need no lenient rule.
+    pub strict: bool,
+    /// Whether SHA-256 fingerprints are told.
+    pub fingerprints: bool,
+}
+
+/// What an object is.
+#[derive(Clone, Copy, Debug, PartialEq, Eq)]
+pub enum Kind {
+    /// A certificate (RFC 5280, section 4.1).
+    Certificate,
+    /// A list of revoked certificates (RFC 5280, section 5.1).
+    List,
+    /// A certification request (RFC 2986, section 4.2).
+    Request,
+}
+
+/// The octets that were tried, those behind the object, and whether it stands plainly.
+#[derive(Clone, Copy)]
+struct Seen<'a> {
+    octets: &'a [u8],
+    rest: &'a [u8],
+    plain: bool,
+}
+
+/// What a reader says to whom only plain objects are wanted, where one isn't.
+const NOT_PLAIN: Err<X509Error> = Err::Error(X509Error::Generic);
+
+/// What came of a reader: it took the object, or it didn't, with its refusal where it was tried.
+#[derive(Clone, Copy)]
+enum Attempt {
+    Taken,
+    Left(Option<Err<X509Error>>),
+}
+
+/// Of each kind, why its reader refuses where it was tried.
+#[derive(Clone, Copy)]
+struct Tried {
+    certificate: Option<Err<X509Error>>,
+    list: Option<Err<X509Error>>,
+    request: Option<Err<X509Error>>,
+}
+
+/// How many octets there are, under a key.
+pub(crate) fn size_under(out: &mut Line, key: &str, octets: &[u8]) -> Result<(), AllocError>
+    ensures { SaysUnder result out.old out.new key.now (count (length octets.now)) }
+{
+    count_under(out, key, octets.len() as u64)
+}
+
+/// What kind of line it is, and where the object was found.
+pub(crate) fn say_place(out: &mut Line, kind: &str, place: &Found<'_>) -> Result<(), AllocError>
+    ensures { SaysMembers result out.old out.new (place_members kind.now (found_of place.now)) }
+{
+    count_under(out, "report", 1)?;
+    text_under(out, "kind", kind)?;
+    text_under(out, "file", place.file)?;
+    count_under(out, "index", place.index)?;
+    count_under(out, "offset", place.offset)
+}
+
+/// The label of its PEM block, under a key.
+fn label_under(out: &mut Line, key: &str, place: &Found<'_>) -> Result<(), AllocError>
+    ensures { SaysUnder result out.old out.new key.now (optional string (found_of place.now).label) }
+{
+    optional_text_under(out, key, place.label)
+}
+
+/// The octets that were tried.
+fn say_octets(
+    alloc: Global,
+    out: &mut Line,
+    fingerprints: bool,
+    place: &Found<'_>,
+    octets: &[u8],
+) -> Result<(), AllocError>
+    ensures { SaysMembers result out.old out.new (octets_members fingerprints (found_of place.now) octets.now) }
+{
+    label_under(out, "label", place)?;
+    size_under(out, "length", octets)?;
+    fingerprint_under(alloc, out, "sha256", fingerprints, octets)?;
+    Ok(())
+}
+
+/// Whether the object stands plainly, and how many octets stand behind it.
+fn say_standing(out: &mut Line, plain: bool, rest: &[u8]) -> Result<(), AllocError>
+    ensures { SaysMembers result out.old out.new (standing_members plain rest.now) }
+{
+    truth_under(out, "strict", plain)?;
+    size_under(out, "behind", rest)
+}
+
+/// The report of a certificate.
+#[tactic(auto, unfolding(crate::specs::Objects::object_report), using(crate::proofs::Members::members_end))]
+fn say_certificate(
+    alloc: Global,
+    out: &mut Line,
+    wishes: &Wishes,
+    place: &Found<'_>,
+    seen: &Seen<'_>,
+    certificate: &X509Certificate<'_>,
+) -> Result<(), AllocError>
+    ensures { Says result out.old out.new (object_report (codes "certificate") (wishes_of wishes.now) (found_of place.now) seen.now.octets.now seen.now.plain seen.now.rest.now (certificate_members wishes.now.fingerprints (certificate_of certificate.now))) }
+{
+    out.begin_object()?;
+    say_place(out, "certificate", place)?;
+    say_octets(alloc, out, wishes.fingerprints, place, seen.octets)?;
+    say_standing(out, seen.plain, seen.rest)?;
+    certificate_members(alloc, out, wishes.fingerprints, certificate)?;
+    out.end_object()?;
+    Ok(())
+}
+
+/// The object as a certificate, where it may be one and is.
+fn try_certificate(
+    alloc: Global,
+    out: &mut Line,
+    wishes: &Wishes,
+    place: &Found<'_>,
+    octets: &[u8],
+) -> Result<Attempt, AllocError>
+    ensures { IfOk result (λ a. Attempts wishes.now.certificates (certificate_told (wishes_of wishes.now) (found_of place.now) octets.now ((certificate true).read octets.now)) out.old out.new a) }
+{
+    if !wishes.certificates {
+        return Ok(Attempt::Left(None));
+    }
+    match parse_x509_certificate_marked(alloc, octets) {
+        Ok((rest, certificate, plain)) => {
+            if wishes.strict && !plain {
+                return Ok(Attempt::Left(Some(NOT_PLAIN)));
+            }
+            let seen = Seen {
+                octets,
+                rest,
+                plain,
+            };
+            say_certificate(alloc, out, wishes, place, &seen, &certificate)?;
+            Ok(Attempt::Taken)
+        }
+        Err(e) => if e.is_out_of_memory() {
+            Err(AllocError)
+        } else {
+            Ok(Attempt::Left(Some(e)))
+        },
+    }
+}
+
+/// The report of a list of revoked certificates.
+#[tactic(auto, unfolding(crate::specs::Objects::object_report), using(crate::proofs::Members::members_end))]
+fn say_list(
+    alloc: Global,
+    out: &mut Line,
+    wishes: &Wishes,
+    place: &Found<'_>,
+    seen: &Seen<'_>,
+    list: &CertificateRevocationList<'_>,
+) -> Result<(), AllocError>
+    ensures { Says result out.old out.new (object_report (codes "list") (wishes_of wishes.now) (found_of place.now) seen.now.octets.now seen.now.plain seen.now.rest.now (list_members (list_of list.now))) }
+{
+    out.begin_object()?;
+    say_place(out, "list", place)?;
+    say_octets(alloc, out, wishes.fingerprints, place, seen.octets)?;
+    say_standing(out, seen.plain, seen.rest)?;
+    list_members(alloc, out, list)?;
+    out.end_object()?;
+    Ok(())
+}
+
+/// The object as a list of revoked certificates, where it may be one and is.
+fn try_list(
+    alloc: Global,
+    out: &mut Line,
+    wishes: &Wishes,
+    place: &Found<'_>,
+    octets: &[u8],
+) -> Result<Attempt, AllocError>
+    ensures { IfOk result (λ a. Attempts wishes.now.lists (list_told (wishes_of wishes.now) (found_of place.now) octets.now (certificate_list.read octets.now)) out.old out.new a) }
+{
+    if !wishes.lists {
+        return Ok(Attempt::Left(None));
+    }
+    match parse_x509_crl_marked(alloc, octets) {
+        Ok((rest, list, plain)) => {
+            if wishes.strict && !plain {
+                return Ok(Attempt::Left(Some(NOT_PLAIN)));
+            }
+            let seen = Seen {
+                octets,
+                rest,
+                plain,
+            };
+            say_list(alloc, out, wishes, place, &seen, &list)?;
+            Ok(Attempt::Taken)
+        }
+        Err(e) => if e.is_out_of_memory() {
+            Err(AllocError)
+        } else {
+            Ok(Attempt::Left(Some(e)))
+        },
+    }
+}
+
+/// The report of a request.
+#[tactic(auto, unfolding(crate::specs::Objects::object_report), using(crate::proofs::Members::members_end))]
+fn say_request(
+    alloc: Global,
+    out: &mut Line,
+    wishes: &Wishes,
+    place: &Found<'_>,
+    seen: &Seen<'_>,
+    request: &X509CertificationRequest<'_>,
+) -> Result<(), AllocError>
+    ensures { Says result out.old out.new (object_report (codes "request") (wishes_of wishes.now) (found_of place.now) seen.now.octets.now seen.now.plain seen.now.rest.now (request_members wishes.now.fingerprints (certification_request_of request.now))) }
+{
+    out.begin_object()?;
+    say_place(out, "request", place)?;
+    say_octets(alloc, out, wishes.fingerprints, place, seen.octets)?;
+    say_standing(out, seen.plain, seen.rest)?;
+    request_members(alloc, out, wishes.fingerprints, request)?;
+    out.end_object()?;
+    Ok(())
+}
+
+/// The object as a request, where it may be one and is.
+fn try_request(
+    alloc: Global,
+    out: &mut Line,
+    wishes: &Wishes,
+    place: &Found<'_>,
+    octets: &[u8],
+) -> Result<Attempt, AllocError>
+    ensures { IfOk result (λ a. Attempts wishes.now.requests (request_told (wishes_of wishes.now) (found_of place.now) octets.now (certification_request.read octets.now)) out.old out.new a) }
+{
+    if !wishes.requests {
+        return Ok(Attempt::Left(None));
+    }
+    match parse_x509_csr_marked(alloc, octets) {
+        Ok((rest, request, plain)) => {
+            if wishes.strict && !plain {
+                return Ok(Attempt::Left(Some(NOT_PLAIN)));
+            }
+            let seen = Seen {
+                octets,
+                rest,
+                plain,
+            };
+            say_request(alloc, out, wishes, place, &seen, &request)?;
+            Ok(Attempt::Taken)
+        }
+        Err(e) => if e.is_out_of_memory() {
+            Err(AllocError)
+        } else {
+            Ok(Attempt::Left(Some(e)))
+        },
+    }
+}
+
+/// What was tried, and why it failed.
+fn say_attempt(out: &mut Line, kind: &str, word: &str) -> Result<(), AllocError>
+    ensures { Says result out.old out.new (attempt_report kind.now word.now) }
+{
+    out.begin_object()?;
+    text_under(out, "kind", kind)?;
+    text_under(out, "word", word)?;
+    out.end_object()?;
+    Ok(())
+}
+
+/// A reader that was tried, where it was, and why it refuses.
+fn say_refused(
+    out: &mut Line,
+    kind: &str,
+    refusal: Option<Err<X509Error>>,
+) -> Result<(), AllocError>
+    ensures { SaysEach result out.old out.new tried_report (tried_by kind.now refusal) }
+{
+    match refusal {
+        Some(refusal) => say_attempt(out, kind, refusal.word()),
+        None => Ok(()),
+    }
+}
+
+/// The readers that were tried, one after another.
+#[tactic(auto, using(crate::proofs::Attempted::each_of_three))]
+fn say_tried(out: &mut Line, tried: &Tried) -> Result<(), AllocError>
+    ensures { SaysEach result out.old out.new tried_report (all_tried (tried_of tried.now)) }
+{
+    say_refused(out, "certificate", tried.certificate)?;
+    say_refused(out, "list", tried.list)?;
+    say_refused(out, "request", tried.request)
+}
+
+/// What was tried in vain, under a key.
+#[tactic(auto, using(x509_report_lines::proofs::Written::list_written))]
+fn tried_under(out: &mut Line, key: &str, tried: &Tried) -> Result<(), AllocError>
+    ensures { SaysUnder result out.old out.new key.now (array_of tried_report (all_tried (tried_of tried.now))) }
+{
+    out.key(key)?;
+    out.begin_array()?;
+    say_tried(out, tried)?;
+    out.end_array()?;
+    Ok(())
+}
+
+/// That no reader takes the object.
+#[tactic(auto, unfolding(crate::specs::Objects::refusal_report))]
+fn say_refusal(
+    alloc: Global,
+    out: &mut Line,
+    wishes: &Wishes,
+    place: &Found<'_>,
+    octets: &[u8],
+    tried: &Tried,
+) -> Result<(), AllocError>
+    ensures { Says result out.old out.new (refusal_report (wishes_of wishes.now) (found_of place.now) octets.now (tried_of tried.now)) }
+{
+    out.begin_object()?;
+    say_place(out, "refusal", place)?;
+    say_octets(alloc, out, wishes.fingerprints, place, octets)?;
+    tried_under(out, "tried", tried)?;
+    out.end_object()?;
+    Ok(())
+}
+
+/// What was tried by other means than a reader of objects, under a key.
+fn attempt_under(out: &mut Line, key: &str, kind: &str, word: &str) -> Result<(), AllocError>
+    ensures { SaysUnder result out.old out.new key.now (array (items_of (attempt_report kind.now word.now ∷ []))) }
+{
+    out.key(key)?;
+    out.begin_array()?;
+    say_attempt(out, kind, word)?;
+    out.end_array()?;
+    Ok(())
+}
+
+/// Writes the line of octets that no reader of objects was given, as something before them failed: what that was, and why.
+#[tactic(auto, unfolding(crate::specs::Objects::failed_report))]
+pub fn failed_line(
+    alloc: Global,
+    out: &mut Line,
+    wishes: &Wishes,
+    place: &Found<'_>,
+    octets: &[u8],
+    kind: &str,
+    word: &str,
+) -> Result<(), AllocError>
+    ensures { Says result out.old out.new (failed_report (wishes_of wishes.now) (found_of place.now) octets.now kind.now word.now) }
+{
+    out.begin_object()?;
+    say_place(out, "refusal", place)?;
+    say_octets(alloc, out, wishes.fingerprints, place, octets)?;
+    attempt_under(out, "tried", kind, word)?;
+    out.end_object()?;
+    Ok(())
+}
+
+/// Writes the line of a block that holds none of the objects that are wanted, by its label.
+#[tactic(auto, unfolding(crate::specs::Objects::skipped_report))]
+pub fn skipped_line(
+    alloc: Global,
+    out: &mut Line,
+    wishes: &Wishes,
+    place: &Found<'_>,
+    octets: &[u8],
+) -> Result<(), AllocError>
+    ensures { Says result out.old out.new (skipped_report (wishes_of wishes.now) (found_of place.now) octets.now) }
+{
+    out.begin_object()?;
+    say_place(out, "skipped", place)?;
+    say_octets(alloc, out, wishes.fingerprints, place, octets)?;
+    out.end_object()?;
+    Ok(())
+}
+
+/// Writes the line of the object at the front of the octets: as the first of the kinds that are wanted whose reader takes it, and else
+/// the refusals of all that were tried. Tells which kind it is; None where it was refused. The only error is want of memory.
+#[tactic(auto, unfolding(crate::specs::Objects::object_told))]
+pub fn object_line(
+    alloc: Global,
+    out: &mut Line,
+    wishes: &Wishes,
+    place: &Found<'_>,
+    octets: &[u8],
+) -> Result<Option<Kind>, AllocError>
+    ensures kind { IfOk result (λ kind. kind ≡ (object_told (wishes_of wishes.now) (found_of place.now) octets.now).0) }
+    ensures line { OnOk result (out.new ≡ written out.old (object_told (wishes_of wishes.now) (found_of place.now) octets.now).1) }
+{
+    let certificate = match try_certificate(alloc, out, wishes, place, octets)? {
+        Attempt::Taken => return Ok(Some(Kind::Certificate)),
+        Attempt::Left(refusal) => refusal,
+    };
+    let list = match try_list(alloc, out, wishes, place, octets)? {
+        Attempt::Taken => return Ok(Some(Kind::List)),
+        Attempt::Left(refusal) => refusal,
+    };
+    let request = match try_request(alloc, out, wishes, place, octets)? {
+        Attempt::Taken => return Ok(Some(Kind::Request)),
+        Attempt::Left(refusal) => refusal,
+    };
+    let tried = Tried {
+        certificate,
+        list,
+        request,
+    };
+    say_refusal(alloc, out, wishes, place, octets, &tried)?;
+    Ok(None)
+}

@@ -1,0 +1,147 @@
+//! What reports say of certification requests.
+
+ghost use Rattle.std.specs.Prelude.{◌≡◌, map};
+ghost use Rattle.x509_requests.specs.CriAttribute.{attribute_of, parsed_of};
+ghost use Rattle.x509_requests.specs.Request.{certification_request_of};
+ghost use Rattle.x509_requests.specs.RequestInfo.{info_of};
+ghost use Rattle.x509_report_lines.specs.Says.{Says, SaysEach, SaysMembers, SaysUnder, list_of};
+ghost use Rattle.x509_report_objects.specs.Requests.{attribute_members, attribute_report, info_members, request_members, signature_members};
+
+use crate::certificates::version_under;
+use crate::extensions::extensions_under;
+use std::alloc::{AllocError, Global};
+use x509_report_lines::Line;
+use x509_report_values::{
+    count_under, hex_under, null_under, oid_members, say_key, text_under, value_under,
+};
+use x509_requests::{
+    ParsedCriAttribute, X509CertificationRequest, X509CertificationRequestInfo, X509CriAttribute,
+};
+
+/// What an attribute is, and what it says.
+fn say_parsed(
+    alloc: Global,
+    out: &mut Line,
+    parsed: &ParsedCriAttribute<'_>,
+) -> Result<(), AllocError>
+    ensures { SaysMembers result out.old out.new (attribute_members (parsed_of parsed.now)) }
+{
+    match parsed {
+        ParsedCriAttribute::ChallengePassword(password) => {
+            text_under(out, "kind", "challenge_password")?;
+            text_under(out, "value", &password.0)
+        }
+        ParsedCriAttribute::ExtensionRequest(request) => {
+            text_under(out, "kind", "extension_request")?;
+            extensions_under(alloc, out, "value", request.extensions.as_slice())
+        }
+        ParsedCriAttribute::UnsupportedAttribute => {
+            text_under(out, "kind", "unsupported")?;
+            null_under(out, "value")
+        }
+    }
+}
+
+/// An attribute.
+#[tactic(auto, unfolding(crate::specs::Requests::attribute_report))]
+fn say_attribute(
+    alloc: Global,
+    out: &mut Line,
+    attribute: &X509CriAttribute<'_>,
+) -> Result<(), AllocError>
+    ensures { Says result out.old out.new (attribute_report (attribute_of attribute.now)) }
+{
+    out.begin_object()?;
+    oid_members(alloc, out, &attribute.oid)?;
+    say_parsed(alloc, out, attribute.parsed_attribute())?;
+    hex_under(alloc, out, "der", attribute.value)?;
+    out.end_object()?;
+    Ok(())
+}
+
+fn say_attributes(
+    alloc: Global,
+    out: &mut Line,
+    attributes: &[X509CriAttribute<'_>],
+) -> Result<(), AllocError>
+    ensures { SaysEach result out.old out.new attribute_report (map attribute_of attributes.now) }
+{
+    for attribute in attributes {
+        say_attribute(alloc, out, attribute)?;
+    }
+    Ok(())
+}
+
+/// Attributes under a key.
+#[tactic(auto, using(x509_report_lines::proofs::Written::list_written))]
+fn attributes_under(
+    alloc: Global,
+    out: &mut Line,
+    key: &str,
+    attributes: &[X509CriAttribute<'_>],
+) -> Result<(), AllocError>
+    ensures { SaysUnder result out.old out.new key.now (list_of attribute_report (map attribute_of attributes.now)) }
+{
+    out.key(key)?;
+    out.begin_array()?;
+    say_attributes(alloc, out, attributes)?;
+    out.end_array()?;
+    Ok(())
+}
+
+/// What is signed.
+fn say_info(
+    alloc: Global,
+    out: &mut Line,
+    fingerprints: bool,
+    info: &X509CertificationRequestInfo<'_>,
+) -> Result<(), AllocError>
+    ensures { SaysMembers result out.old out.new (info_members fingerprints (info_of info.now)) }
+{
+    version_under(out, "version", info.version)?;
+    value_under(alloc, out, "subject", &info.subject)?;
+    out.key("key")?;
+    say_key(alloc, out, fingerprints, &info.subject_pki)?;
+    attributes_under(alloc, out, "attributes", info.attributes())
+}
+
+/// How it is signed.
+fn say_signature(
+    alloc: Global,
+    out: &mut Line,
+    request: &X509CertificationRequest<'_>,
+) -> Result<(), AllocError>
+    ensures { SaysMembers result out.old out.new (signature_members (certification_request_of request.now)) }
+{
+    value_under(
+        alloc,
+        out,
+        "signature_algorithm",
+        &request.signature_algorithm,
+    )?;
+    value_under(alloc, out, "signature", &request.signature_value)?;
+    count_under(
+        out,
+        "tbs_length",
+        request.certification_request_info.raw.len() as u64,
+    )
+}
+
+/// The members of a request's report, one after another; with fingerprints where these are wanted.
+#[tactic(auto, unfolding(crate::specs::Requests::request_members))]
+pub fn request_members(
+    alloc: Global,
+    out: &mut Line,
+    fingerprints: bool,
+    request: &X509CertificationRequest<'_>,
+) -> Result<(), AllocError>
+    ensures { SaysMembers result out.old out.new (request_members fingerprints (certification_request_of request.now)) }
+{
+    say_info(
+        alloc,
+        out,
+        fingerprints,
+        &request.certification_request_info,
+    )?;
+    say_signature(alloc, out, request)
+}
