@@ -50,6 +50,20 @@ reason_names =
     codes "AA Compromise" ∷
     []
 
+-- the standard's names of the bits
+abbrev pub reason_words : List (List ℕ)
+reason_words =
+    codes "unused" ∷
+    codes "key_compromise" ∷
+    codes "ca_compromise" ∷
+    codes "affiliation_changed" ∷
+    codes "superseded" ∷
+    codes "cessation_of_operation" ∷
+    codes "certificate_hold" ∷
+    codes "privilege_withdrawn" ∷
+    codes "aa_compromise" ∷
+    []
+
 -- ---- laws
 
 pub reason_flags_laws : IsMarkedElement is_x509_memory reason_flags

@@ -7,14 +7,15 @@ ghost use Rattle.x509_der.specs.Primitives.{is_explicit, is_primitive};
 ghost use Rattle.x509_der.specs.Promises.{IsForeign};
 ghost use Rattle.x509_der.specs.Reading.{Gives, strict};
 ghost use Rattle.x509_parts.specs.Flags.{has_bit};
-ghost use Rattle.x509_parts.specs.Texts.{flags_text};
-ghost use Rattle.x509_authorities.specs.ReasonFlags.{reason_flags_of, reason_flags, implicit_reasons, reason_names, reason_flags_laws};
+ghost use Rattle.x509_parts.specs.BitNames.{names_left};
+ghost use Rattle.x509_parts.specs.Texts.{flags_text, set_names};
+ghost use Rattle.x509_authorities.specs.ReasonFlags.{reason_flags_of, reason_flags, implicit_reasons, reason_names, reason_words, reason_flags_laws};
 
 use std::alloc::Global;
 use std::fmt;
 use x509_der::{Err, FromDer, Place, Tries};
 use x509_fields::X509Error;
-use x509_parts::{FlagNames, flags_of, is_set};
+use x509_parts::{BitNames, FlagNames, flags_of, is_set};
 
 /// Why certificates are revoked (RFC 5280, section 4.2.1.13).
 ///
@@ -50,7 +51,26 @@ const NAMES: [&str; 9] = [
     "AA Compromise",
 ];
 
+const WORDS: &[&str] = &[
+    "unused",
+    "key_compromise",
+    "ca_compromise",
+    "affiliation_changed",
+    "superseded",
+    "cessation_of_operation",
+    "certificate_hold",
+    "privilege_withdrawn",
+    "aa_compromise",
+];
+
 impl ReasonFlags {
+    /// The standard's names of the reasons whose bits are set, as `key_compromise`, in the standard's order.
+    pub fn names(&self) -> BitNames
+        ensures { names_left result ≡ set_names reason_words self.now.flags }
+    {
+        BitNames::new(WORDS, self.flags)
+    }
+
     /// Whether the subject's key may be known to others.
     pub fn key_compromise(&self) -> bool
         ensures { result ≡ has_bit self.now.flags 1 }

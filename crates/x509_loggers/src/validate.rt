@@ -1,8 +1,7 @@
 //! A validator and one of the loggers, in one call.
 
-ghost use Rattle.std.specs.Prelude.{◌≡◌, IfOk, IfErr, map};
+ghost use Rattle.std.specs.Prelude.{◌≡◌, IfOk, map};
 ghost use Rattle.std.specs.String.{string_bytes};
-ghost use Rattle.x509_fields.specs.declared.error.X509Error.TheVariants.{OutOfMemory};
 ghost use Rattle.x509_loggers.specs.Message.{Logs, warnings_of, errors_of};
 ghost use Rattle.x509_loggers.specs.CallbackLogger.{calls};
 ghost use Rattle.x509_loggers.specs.declared.callback_logger.CallbackLogger.{CallbackLogger};
@@ -10,7 +9,7 @@ ghost use Rattle.x509_loggers.specs.declared.callback_logger.CallbackLogger.{Cal
 use crate::callback_logger::CallbackLogger;
 use crate::validator::Validator;
 use crate::vec_logger::VecLogger;
-use std::alloc::Global;
+use std::alloc::{AllocError, Global};
 use x509_fields::X509Error;
 
 /// What a validator says of an item, by a closure for each level.
@@ -43,22 +42,25 @@ where
 ///
 /// # Errors
 ///
-/// `OutOfMemory`.
+/// Want of memory alone.
 #[tactic(auto, using(crate::proofs::Kept::kept))]
 pub fn validate_to_vec<'a, V: Validator<'a>>(
     alloc: Global,
     validator: &V,
     item: &V::Item,
-) -> Result<(bool, Vec<String>, Vec<String>), X509Error>
+) -> Result<(bool, Vec<String>, Vec<String>), AllocError>
     ensures answer { IfOk result (λ r. r.0 ≡ V.answer validator.now item.now) }
     ensures warnings { IfOk result
         (λ r. map string_bytes r.1.items ≡ warnings_of (V.messages validator.now item.now)) }
     ensures errors { IfOk result
         (λ r. map string_bytes r.2.items ≡ errors_of (V.messages validator.now item.now)) }
-    ensures refused { IfErr result (λ e. e ≡ OutOfMemory) }
 {
     let mut logger = VecLogger::new(alloc);
-    let answer = validator.validate(alloc, item, &mut logger)?;
+    let answer = match validator.validate(alloc, item, &mut logger) {
+        Ok(answer) => answer,
+        Err(X509Error::OutOfMemory) => return Err(AllocError),
+        Err(_) => unreachable!(),
+    };
     let (warnings, errors) = logger.into_parts();
     Ok((answer, warnings, errors))
 }

@@ -1,18 +1,10 @@
 //! The answer to each word.
 
-use std::alloc::{AllocError, Global};
+use x509_probe_show::Answer;
 
 /// Adds the answer to a word and its bytes; false where it is no word.
-pub fn answer(
-    alloc: Global,
-    word: &str,
-    a: &[u8],
-    b: &[u8],
-    out: &mut String,
-) -> Result<bool, AllocError> {
-    Ok(
-        x509_probe_readers::answer(alloc, word, a, b, out)?
-            || x509_probe_calls::answer(alloc, word, a, b, out)?
-            || x509_probe_checks::answer(alloc, word, a, b, out)?,
-    )
+pub fn answer(word: &str, a: &[u8], b: &[u8], out: &mut Answer) -> bool {
+    x509_probe_readers::answer(word, a, b, out)
+        || x509_probe_calls::answer(word, a, b, out)
+        || x509_probe_checks::answer(word, a, b, out)
 }

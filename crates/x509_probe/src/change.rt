@@ -1,13 +1,14 @@
 //! Rows whose octets are changed one at a time, and their fronts: what holds whatever is answered.
 
-use crate::lines::{Line, kind_of, next_line, put_line};
+use crate::lines::{Line, kind_of, put_line};
 use crate::promises::{Finding, Promise};
 use crate::rows::{NoRow, Row, row_of};
+use crate::work::Work;
 use crate::{answers, promises};
 use std::alloc::{AllocError, Global};
 use std::io;
-use std::io::{BufRead, Write};
-use x509_probe_show::put_hex;
+use std::io::Write;
+use x509_probe_show::Answer;
 
 /// How many inputs were made, how many of them are taken, and which promises were broken.
 #[derive(Clone, Copy)]
@@ -90,7 +91,7 @@ fn structure(alloc: Global, word: &str, i: &[u8]) -> Result<(), Finding> {
         | "certificate_strict"
         | "certificate_strict_shallow"
         | "parse"
-        | "parse_certificate_strict" => { promises::certificate(alloc, i) }
+        | "parse_certificate_strict" => promises::certificate(alloc, i),
         "crl" | "parse_crl" | "parse_crl_strict" => promises::list(alloc, i),
         "csr" | "parse_csr_strict" => promises::request(alloc, i),
         "extension" | "extension_shallow" => promises::extension(alloc, i),
@@ -100,25 +101,40 @@ fn structure(alloc: Global, word: &str, i: &[u8]) -> Result<(), Finding> {
     }
 }
 
+// Looks at what was answered to an input, and whether the input is taken.
+fn seen(word: &str, i: &[u8], answer: &Answer) -> Result<bool, Finding> {
+    answer.finish()?;
+    told(i, answer.as_str())?;
+    structure(answer.alloc(), word, i)?;
+    Ok(answer.as_str().starts_with("ok"))
+}
+
 // Looks at what a row's word says of an input, and whether it is taken.
 fn look(alloc: Global, row: &Row<'_>, i: &[u8]) -> Result<bool, Finding> {
-    let mut answer = String::new(alloc);
-    answers::answer(alloc, row.word, i, &row.second, &mut answer)?;
-    told(i, answer.as_str())?;
-    structure(alloc, row.word, i)?;
-    Ok(answer.starts_with("ok"))
+    let mut answer = Answer::new(alloc);
+    answers::answer(row.word, i, &row.second, &mut answer);
+    seen(row.word, i, &answer)
 }
 
 // A row with another input, as a line.
-fn line_of(alloc: Global, row: &Row<'_>, i: &[u8]) -> Result<String, AllocError> {
-    let mut line = String::from_str(alloc, row.word)?;
-    line.push_str(" ")?;
-    put_hex(&mut line, i)?;
+fn line_of(alloc: Global, row: &Row<'_>, i: &[u8]) -> Answer {
+    let mut line = Answer::new(alloc);
+    line.add(row.word);
+    line.add(" ");
+    line.hex(i);
     if !row.second.is_empty() {
-        line.push_str(" ")?;
-        put_hex(&mut line, &row.second)?;
+        line.add(" ");
+        line.hex(&row.second);
     }
-    Ok(line)
+    line
+}
+
+// Writes a line at which a promise is broken.
+fn put_broken<W: Write>(writer: &mut W, line: &Answer, promise: Promise) -> io::Result<()> {
+    line.finish()?;
+    put_line(writer, line.as_str().as_bytes())?;
+    writer.write_all(b"  ")?;
+    put_line(writer, promise.broken().as_bytes())
 }
 
 // Counts an input, and writes the first one at which a promise is broken.
@@ -139,10 +155,7 @@ fn try_input<W: Write>(
         Err(Finding::Broken(promise)) => {
             changes.count(promise);
             if changes.count_of(promise) == 1 {
-                let line = line_of(alloc, row, i)?;
-                put_line(writer, line.as_bytes())?;
-                writer.write_all(b"  ")?;
-                put_line(writer, promise.broken().as_bytes())?;
+                return put_broken(writer, &line_of(alloc, row, i), promise);
             }
             Ok(())
         }
@@ -156,25 +169,24 @@ fn set(octets: &mut [u8], place: usize, octet: u8) {
     }
 }
 
-// The row's input with each octet changed, and each of its fronts.
-fn try_changes<W: Write>(
+// The row's input with each octet changed in turn, and each of its fronts.
+fn try_octets<W: Write>(
     alloc: Global,
     writer: &mut W,
     row: &Row<'_>,
+    input: &mut [u8],
     changes: &mut Changes,
 ) -> io::Result<()> {
-    let mut input = Vec::new(alloc);
-    input.extend_from_slice(&row.first)?;
     for (k, octet) in row.first.iter().enumerate() {
         let next = octet.wrapping_add(1);
         let previous = octet.wrapping_sub(1);
         for other in [0x00, 0x80, 0xff, next, previous] {
             if other != *octet {
-                set(&mut input, k, other);
-                try_input(alloc, writer, row, &input, changes)?;
+                set(input, k, other);
+                try_input(alloc, writer, row, input, changes)?;
             }
         }
-        set(&mut input, k, *octet);
+        set(input, k, *octet);
         if let Some(front) = row.first.get(..k) {
             try_input(alloc, writer, row, front, changes)?;
         }
@@ -182,30 +194,55 @@ fn try_changes<W: Write>(
     Ok(())
 }
 
-/// Changes the input of each row of a file, and writes the first input of each promise that is broken.
-pub fn change<R: BufRead, W: Write>(
+// Changes a row's input, which is counted.
+fn try_changes<W: Write>(
     alloc: Global,
-    reader: &mut R,
     writer: &mut W,
+    row: &Row<'_>,
     changes: &mut Changes,
 ) -> io::Result<()> {
-    let mut line = Vec::new(alloc);
-    for _ in 0..u64::MAX {
-        if !next_line(reader, &mut line)? {
-            break;
+    changes.rows = changes.rows.saturating_add(1);
+    let mut input = Vec::new(alloc);
+    input.extend_from_slice(&row.first)?;
+    try_octets(alloc, writer, row, &mut input, changes)
+}
+
+// Changes the input of the row that a line is.
+fn change_row<W: Write>(
+    alloc: Global,
+    writer: &mut W,
+    line: &[u8],
+    changes: &mut Changes,
+) -> io::Result<()> {
+    match row_of(alloc, line) {
+        Ok(row) => try_changes(alloc, writer, &row, changes),
+        Err(NoRow::Bad(_)) => {
+            changes.bad = changes.bad.saturating_add(1);
+            Ok(())
         }
-        if let Line::Row = kind_of(&line) {
-            match row_of(alloc, &line) {
-                Ok(row) => {
-                    changes.rows = changes.rows.saturating_add(1);
-                    try_changes(alloc, writer, &row, changes)?;
-                }
-                Err(NoRow::Bad(_)) => changes.bad = changes.bad.saturating_add(1),
-                Err(NoRow::Memory) => return Err(AllocError.into()),
-            }
+        Err(NoRow::Memory) => Err(AllocError.into()),
+    }
+}
+
+/// Changes the input of each row, and writes the first input of each promise that is broken.
+impl Work for Changes {
+    fn line<W: Write>(
+        &mut self,
+        alloc: Global,
+        _path: &str,
+        _number: u64,
+        line: &[u8],
+        writer: &mut W,
+    ) -> io::Result<()> {
+        match kind_of(line) {
+            Line::Row => change_row(alloc, writer, line, self),
+            _ => Ok(()),
         }
     }
-    Ok(())
+
+    fn end<W: Write>(&mut self, _path: &str, _writer: &mut W) -> io::Result<()> {
+        Ok(())
+    }
 }
 
 /// Writes what was counted.
@@ -231,5 +268,5 @@ pub fn put_changes<W: Write>(writer: &mut W, changes: &Changes) -> io::Result<()
             writeln!(writer, "{count} times: {words}")?;
         }
     }
-    Ok(())
+    writer.flush()
 }

@@ -1,10 +1,12 @@
 //! Files of rows with their answers.
 
-use crate::lines::{Line, kind_of, next_line, put_expected, put_line};
+use crate::lines::{Line, kind_of, put_expected, put_line};
 use crate::rows;
+use crate::work::Work;
 use std::alloc::{AllocError, Global};
 use std::io;
-use std::io::{BufRead, Write};
+use std::io::Write;
+use x509_probe_show::Answer;
 
 /// How many rows there were, how many of them differ from what is expected, can't be read, or had no memory.
 #[derive(Clone, Copy)]
@@ -36,7 +38,7 @@ impl Tally {
 struct Row {
     line: u64,
     text: Vec<u8>,
-    answer: String,
+    answer: Answer,
     good: bool,
 }
 
@@ -44,8 +46,9 @@ struct Row {
 fn row_of(alloc: Global, line: u64, text: &[u8]) -> Result<Row, AllocError> {
     let mut kept = Vec::new(alloc);
     kept.extend_from_slice(text)?;
-    let mut answer = String::new(alloc);
-    let good = rows::answer(alloc, text, &mut answer)?;
+    let mut answer = Answer::new(alloc);
+    let good = rows::answer(text, &mut answer);
+    answer.finish()?;
     Ok(Row {
         line,
         text: kept,
@@ -67,7 +70,7 @@ fn put_difference<W: Write>(
     writer.write_all(b"  want ")?;
     put_line(writer, expected)?;
     writer.write_all(b"  got ")?;
-    put_line(writer, row.answer.as_bytes())
+    put_line(writer, row.answer.as_str().as_bytes())
 }
 
 /// Counts a row, and writes it where its answer isn't what is expected.
@@ -84,7 +87,7 @@ fn judge<W: Write>(
     }
     match expected {
         Some(answer) => {
-            if row.good && answer == row.answer.as_bytes() {
+            if row.good && answer == row.answer.as_str().as_bytes() {
                 return Ok(());
             }
             tally.differ = tally.differ.saturating_add(1);
@@ -116,114 +119,144 @@ fn close<W: Write>(
     }
 }
 
-/// Answers each row of a file, and writes those whose answers aren't what the file expects, and how many rows there are.
-pub fn check<R: BufRead, W: Write>(
-    alloc: Global,
-    path: &str,
-    reader: &mut R,
+/// Counts the row that waits for this answer, which stands in the line of that number.
+fn expect<W: Write>(
     writer: &mut W,
+    path: &str,
+    line: u64,
+    waiting: Option<Row>,
+    answer: &[u8],
     tally: &mut Tally,
 ) -> io::Result<()> {
-    let mut own = Tally::new();
-    let mut line = Vec::new(alloc);
-    let mut waiting: Option<Row> = None;
-    for number in 1..u64::MAX {
-        if !next_line(reader, &mut line)? {
-            break;
+    match waiting {
+        Some(row) => judge(writer, path, &row, Some(answer), tally),
+        None => stray(writer, path, line, tally),
+    }
+}
+
+/// Answers each row of a file, and writes those whose answers aren't what the file expects, and how many rows there are.
+#[derive(Drop)]
+pub struct Checking {
+    /// The rows so far.
+    pub tally: Tally,
+    /// How many of them stand in files before this one.
+    before: u64,
+    /// The row that waits for its answer.
+    waiting: Option<Row>,
+}
+
+impl Checking {
+    /// No row yet.
+    pub fn new() -> Checking {
+        Checking {
+            tally: Tally::new(),
+            before: 0,
+            waiting: None,
         }
-        match kind_of(&line) {
-            Line::Remark => close(writer, path, waiting.take(), &mut own)?,
-            Line::Expected(answer) => match waiting.take() {
-                Some(row) => judge(writer, path, &row, Some(answer), &mut own)?,
-                None => stray(writer, path, number, &mut own)?,
-            },
+    }
+}
+
+impl Work for Checking {
+    fn line<W: Write>(
+        &mut self,
+        alloc: Global,
+        path: &str,
+        number: u64,
+        line: &[u8],
+        writer: &mut W,
+    ) -> io::Result<()> {
+        let waiting = self.waiting.take();
+        let tally = &mut self.tally;
+        match kind_of(line) {
+            Line::Remark => close(writer, path, waiting, tally),
+            Line::Expected(answer) => expect(writer, path, number, waiting, answer, tally),
             Line::Row => {
-                close(writer, path, waiting.take(), &mut own)?;
-                waiting = Some(row_of(alloc, number, &line)?);
+                close(writer, path, waiting, tally)?;
+                self.waiting = Some(row_of(alloc, number, line)?);
+                Ok(())
             }
         }
     }
-    close(writer, path, waiting, &mut own)?;
-    let rows = own.rows;
-    writeln!(writer, "{path}: {rows} rows")?;
-    tally.rows = tally.rows.saturating_add(own.rows);
-    tally.differ = tally.differ.saturating_add(own.differ);
-    tally.bad = tally.bad.saturating_add(own.bad);
-    Ok(())
+
+    fn end<W: Write>(&mut self, path: &str, writer: &mut W) -> io::Result<()> {
+        close(writer, path, self.waiting.take(), &mut self.tally)?;
+        let rows = self.tally.rows.wrapping_sub(self.before);
+        self.before = self.tally.rows;
+        writeln!(writer, "{path}: {rows} rows")
+    }
 }
 
 /// The answer to a row, which is counted.
-fn answer_of(alloc: Global, row: &[u8], tally: &mut Tally) -> Result<String, AllocError> {
-    let mut answer = String::new(alloc);
+fn answer_of(alloc: Global, row: &[u8], tally: &mut Tally) -> Answer {
+    let mut answer = Answer::new(alloc);
     tally.rows = tally.rows.saturating_add(1);
-    if !rows::answer(alloc, row, &mut answer)? {
+    if !rows::answer(row, &mut answer) && !answer.is_stopped() {
         tally.bad = tally.bad.saturating_add(1);
     }
-    Ok(answer)
+    answer
+}
+
+/// Writes a row and its answer.
+fn put_filled<W: Write>(writer: &mut W, row: &[u8], answer: &Answer) -> io::Result<()> {
+    answer.finish()?;
+    put_line(writer, row)?;
+    put_expected(writer, answer.as_str().as_bytes())
 }
 
 /// Writes a file with the program's own answers behind its rows, in the place of those that stand there.
-pub fn fill<R: BufRead, W: Write>(
-    alloc: Global,
-    reader: &mut R,
-    writer: &mut W,
-    tally: &mut Tally,
-) -> io::Result<()> {
-    let mut line = Vec::new(alloc);
-    for _ in 0..u64::MAX {
-        if !next_line(reader, &mut line)? {
-            break;
-        }
-        match kind_of(&line) {
-            Line::Remark => put_line(writer, &line)?,
-            Line::Expected(_) => {}
-            Line::Row => {
-                let answer = answer_of(alloc, &line, tally)?;
-                put_line(writer, &line)?;
-                put_expected(writer, answer.as_bytes())?;
-            }
+#[derive(Clone, Copy)]
+pub struct Filling(pub Tally);
+
+impl Work for Filling {
+    fn line<W: Write>(
+        &mut self,
+        alloc: Global,
+        _path: &str,
+        _number: u64,
+        line: &[u8],
+        writer: &mut W,
+    ) -> io::Result<()> {
+        match kind_of(line) {
+            Line::Remark => put_line(writer, line),
+            Line::Expected(_) => Ok(()),
+            Line::Row => put_filled(writer, line, &answer_of(alloc, line, &mut self.0)),
         }
     }
-    Ok(())
+
+    fn end<W: Write>(&mut self, _path: &str, _writer: &mut W) -> io::Result<()> {
+        Ok(())
+    }
 }
 
-/// Writes the answer to a row: where memory is refused, what was said before it, and that it was.
-fn put_answer<W: Write>(
-    alloc: Global,
-    writer: &mut W,
-    row: &[u8],
-    tally: &mut Tally,
-) -> io::Result<()> {
-    let mut answer = String::new(alloc);
-    tally.rows = tally.rows.saturating_add(1);
-    match rows::answer(alloc, row, &mut answer) {
-        Ok(good) => {
-            if !good {
-                tally.bad = tally.bad.saturating_add(1);
-            }
-            put_line(writer, answer.as_bytes())
-        }
-        Err(AllocError) => {
-            tally.refused = tally.refused.saturating_add(1);
-            writer.write_all(answer.as_bytes())?;
-            writer.write_all(b"... out of memory\n")
-        }
+/// Writes an answer: where memory is refused, what was said before it, and that it was.
+fn put_answer<W: Write>(writer: &mut W, answer: &Answer, tally: &mut Tally) -> io::Result<()> {
+    let text = answer.as_str().as_bytes();
+    if !answer.is_stopped() {
+        return put_line(writer, text);
     }
+    tally.refused = tally.refused.saturating_add(1);
+    writer.write_all(text)?;
+    writer.write_all(b"... out of memory\n")
 }
 
 /// Writes the answer to each row that a reader gives. Where memory is refused to one, the next is answered all the same.
-pub fn answer_all<R: BufRead, W: Write>(
-    alloc: Global,
-    reader: &mut R,
-    writer: &mut W,
-    tally: &mut Tally,
-) -> io::Result<()> {
-    let mut line = Vec::new(alloc);
-    for _ in 0..u64::MAX {
-        if !next_line(reader, &mut line)? {
-            break;
-        }
-        put_answer(alloc, writer, &line, tally)?;
+#[derive(Clone, Copy)]
+pub struct Answering(pub Tally);
+
+impl Work for Answering {
+    fn line<W: Write>(
+        &mut self,
+        alloc: Global,
+        _path: &str,
+        _number: u64,
+        line: &[u8],
+        writer: &mut W,
+    ) -> io::Result<()> {
+        let answer = answer_of(alloc, line, &mut self.0);
+        put_answer(writer, &answer, &mut self.0)
     }
-    Ok(())
+
+    fn end<W: Write>(&mut self, _path: &str, _writer: &mut W) -> io::Result<()> {
+        Ok(())
+    }
 }

@@ -11,14 +11,15 @@ mod check;
 mod lines;
 mod promises;
 mod rows;
+mod work;
 
-use change::{Changes, change, put_changes};
-use check::{Tally, answer_all, check, fill};
+use change::{Changes, put_changes};
+use check::{Answering, Checking, Filling, Tally};
 use std::env::Args;
-use std::fs::File;
-use std::io::{BufReader, BufWriter, ErrorKind, Write};
+use std::io::{BufWriter, ErrorKind};
 use std::process::ExitCode;
 use std::{env, io};
+use work::{Work, over_file, over_input};
 
 /// All rows were answered, as expected where that was asked.
 const AGREED: u8 = 0;
@@ -55,53 +56,60 @@ fn stopped(rt: &HostRuntime, place: &str, error: &io::Error) -> u8 {
 }
 
 /// Answers the rows of standard input.
-fn answer_input(rt: &HostRuntime) -> io::Result<u8> {
-    let mut reader = BufReader::new(rt.alloc(), rt.reader())?;
-    let mut writer = BufWriter::new(rt.alloc(), io::writer(rt))?;
-    let mut tally = Tally::new();
-    answer_all(rt.alloc(), &mut reader, &mut writer, &mut tally)?;
-    writer.flush()?;
-    Ok(status_of(&tally))
+fn answer_input(rt: &HostRuntime) -> u8 {
+    let mut work = Answering(Tally::new());
+    match over_input(rt, &mut work) {
+        Ok(()) => status_of(&work.0),
+        Err(error) => stopped(rt, "standard input or output", &error),
+    }
 }
 
-/// Compares the answers to the rows of a file with those that stand behind them.
-fn check_file(rt: &HostRuntime, path: &str, tally: &mut Tally) -> io::Result<()> {
-    let mut reader = BufReader::new(rt.alloc(), File::open(rt, path)?)?;
-    let mut writer = BufWriter::new(rt.alloc(), io::writer(rt))?;
-    check(rt.alloc(), path, &mut reader, &mut writer, tally)?;
-    writer.flush()
+/// Does the work with each of these files, and tells whether there are any; the exit status where it was stopped.
+fn over_files<K: Work>(rt: &HostRuntime, paths: Args, work: &mut K) -> Result<bool, u8> {
+    let mut any = false;
+    for path in paths {
+        any = true;
+        if let Err(error) = over_file(rt, path.as_str(), work) {
+            return Err(stopped(rt, path.as_str(), &error));
+        }
+    }
+    Ok(any)
 }
 
-/// Writes a file with the program's own answers.
-fn fill_file(rt: &HostRuntime, path: &str, tally: &mut Tally) -> io::Result<()> {
-    let mut reader = BufReader::new(rt.alloc(), File::open(rt, path)?)?;
-    let mut writer = BufWriter::new(rt.alloc(), io::writer(rt))?;
-    fill(rt.alloc(), &mut reader, &mut writer, tally)?;
-    writer.flush()
+/// The exit status behind the files of the command line.
+fn status_behind(rt: &HostRuntime, done: Result<bool, u8>, tally: &Tally) -> u8 {
+    match done {
+        Ok(true) => status_of(tally),
+        Ok(false) => usage(rt),
+        Err(status) => status,
+    }
 }
 
-/// Changes the inputs of the rows of a file.
-fn change_file(rt: &HostRuntime, path: &str, changes: &mut Changes) -> io::Result<()> {
-    let mut reader = BufReader::new(rt.alloc(), File::open(rt, path)?)?;
-    let mut writer = BufWriter::new(rt.alloc(), io::writer(rt))?;
-    change(rt.alloc(), &mut reader, &mut writer, changes)?;
-    writer.flush()
+/// Compares the answers to the rows of these files with those that stand behind them.
+fn checked(rt: &HostRuntime, paths: Args) -> u8 {
+    let mut work = Checking::new();
+    let done = over_files(rt, paths, &mut work);
+    status_behind(rt, done, &work.tally)
+}
+
+/// Writes these files with the program's own answers.
+fn filled(rt: &HostRuntime, paths: Args) -> u8 {
+    let mut work = Filling(Tally::new());
+    let done = over_files(rt, paths, &mut work);
+    status_behind(rt, done, &work.0)
 }
 
 /// Writes what was counted at changed inputs.
 fn put_counts(rt: &HostRuntime, changes: &Changes) -> io::Result<()> {
     let mut writer = BufWriter::new(rt.alloc(), io::writer(rt))?;
-    put_changes(&mut writer, changes)?;
-    writer.flush()
+    put_changes(&mut writer, changes)
 }
 
 /// Changes the inputs of the rows of these files.
 fn changed(rt: &HostRuntime, paths: Args) -> u8 {
     let mut changes = Changes::new();
-    for path in paths {
-        if let Err(error) = change_file(rt, path.as_str(), &mut changes) {
-            return stopped(rt, path.as_str(), &error);
-        }
+    if let Err(status) = over_files(rt, paths, &mut changes) {
+        return status;
     }
     if let Err(error) = put_counts(rt, &changes) {
         return stopped(rt, "standard output", &error);
@@ -115,38 +123,22 @@ fn changed(rt: &HostRuntime, paths: Args) -> u8 {
     }
 }
 
-/// Checks these files, or fills them.
-fn files(rt: &HostRuntime, paths: Args, filled: bool) -> u8 {
-    let mut tally = Tally::new();
-    let mut any = false;
-    for path in paths {
-        any = true;
-        let done = if filled {
-            fill_file(rt, path.as_str(), &mut tally)
-        } else {
-            check_file(rt, path.as_str(), &mut tally)
-        };
-        if let Err(error) = done {
-            return stopped(rt, path.as_str(), &error);
-        }
+/// Does what a word of the command line says with the files behind it.
+fn command(rt: &HostRuntime, word: &str, paths: Args) -> u8 {
+    match word {
+        "check" => checked(rt, paths),
+        "answer" => filled(rt, paths),
+        "change" => changed(rt, paths),
+        _ => usage(rt),
     }
-    if any { status_of(&tally) } else { usage(rt) }
 }
 
 /// Does what the command line says, and gives the exit status.
 fn run(rt: &HostRuntime, mut words: Args) -> u8 {
     let _program = words.next();
-    let Some(word) = words.next() else {
-        return match answer_input(rt) {
-            Ok(status) => status,
-            Err(error) => stopped(rt, "standard input or output", &error),
-        };
-    };
-    match word.as_str() {
-        "check" => files(rt, words, false),
-        "answer" => files(rt, words, true),
-        "change" => changed(rt, words),
-        _ => usage(rt),
+    match words.next() {
+        Some(word) => command(rt, word.as_str(), words),
+        None => answer_input(rt),
     }
 }
 

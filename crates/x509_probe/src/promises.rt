@@ -10,6 +10,7 @@ use x509_parser::revocation_list::{CertificateRevocationList, TbsCertList};
 use x509_parser::utils::TryClone;
 use x509_parser::x509::X509Name;
 use x509_parser::{parse_x509_crl_strict, parse_x509_csr_strict};
+use x509_probe_show::Show;
 use x509_revoked::RevocationIndex;
 
 /// What is looked at.
@@ -113,24 +114,43 @@ fn kept(promise: Promise, holds: bool) -> Result<(), Finding> {
 }
 
 // What a reader took; the rest is the end of the input.
-fn taken<'a, T: Drop, E: ReadError>(
+fn taken<'a, T: Show, E: ReadError>(
     i: &'a [u8],
     read: Result<(&'a [u8], T), Err<E>>,
 ) -> Result<Taken<'a, T>, Finding> {
     match read {
         Ok((rest, value)) => {
-            kept(Promise::Rest, i.ends_with(rest))?;
-            Ok(Some((rest, value)))
+            if i.ends_with(rest) {
+                Ok(Some((rest, value)))
+            } else {
+                Err(Finding::Broken(Promise::Rest))
+            }
         }
         Err(refusal) if refusal.is_out_of_memory() => Err(Finding::Memory),
         Err(_) => Ok(None),
     }
 }
 
-// The count of a reader that was given these bytes.
-fn counted(i: &[u8], tries: &Tries) -> Result<(), Finding> {
+// The same of a reader that counts.
+fn counted<'a, T: Show, E: ReadError>(
+    i: &'a [u8],
+    tries: &Tries,
+    read: Result<(&'a [u8], T), Err<E>>,
+) -> Result<Taken<'a, T>, Finding> {
     let length = u128::try_from(i.len()).unwrap_or(u128::MAX);
-    kept(Promise::Tries, tries.count() / 8 <= length)
+    if tries.count() / 8 <= length {
+        taken(i, read)
+    } else {
+        Err(Finding::Broken(Promise::Tries))
+    }
+}
+
+// Whether a reader took something.
+fn is_taken<T: Show>(taken: Result<Taken<'_, T>, Finding>) -> Result<bool, Finding> {
+    match taken {
+        Ok(taken) => Ok(taken.is_some()),
+        Err(finding) => Err(finding),
+    }
 }
 
 // A window that is all that was consumed.
@@ -152,22 +172,87 @@ fn signed(whole: &[u8], part: &[u8]) -> Result<(), Finding> {
 }
 
 // The signed part, read from its window.
-fn again<'a, T: FromDer<'a, X509Error> + PartialEq + Drop>(
+fn again<'a, T: FromDer<'a, X509Error> + PartialEq + Show>(
     alloc: Global,
     window: &'a [u8],
     value: &T,
 ) -> Result<(), Finding> {
-    match taken(window, T::from_der(alloc, window))? {
-        Some((rest, same)) => kept(Promise::SignedPart, rest.is_empty() && same == *value),
-        None => Err(Finding::Broken(Promise::SignedPart)),
+    match taken(window, T::from_der(alloc, window)) {
+        Ok(Some((rest, same))) => kept(Promise::SignedPart, rest.is_empty() && same == *value),
+        Ok(None) => Err(Finding::Broken(Promise::SignedPart)),
+        Err(finding) => Err(finding),
     }
 }
 
 // A copy of a value.
-fn copied<T: TryClone + PartialEq + Drop>(value: &T) -> Result<(), Finding> {
+fn copied<T: TryClone + PartialEq>(value: &T) -> Result<(), Finding> {
     match value.try_clone() {
         Ok(copy) => kept(Promise::Copies, copy == *value),
         Err(_) => Err(Finding::Memory),
+    }
+}
+
+/// A structure whose front is signed.
+trait Structure<'a>: Show {
+    /// What its readers take.
+    fn loose(alloc: Global, i: &'a [u8]) -> Result<Taken<'a, Self>, Finding>;
+
+    /// What its strict readers take.
+    fn strict(alloc: Global, i: &'a [u8]) -> Result<Taken<'a, Self>, Finding>;
+
+    /// Whether two say the same.
+    fn is_same(&self, other: &Self) -> bool;
+
+    /// Its window, and that of its signed part.
+    fn windows(&self) -> (&'a [u8], &'a [u8]);
+
+    /// The signed part read again, copies, and what else it has.
+    fn others(&self, alloc: Global) -> Result<(), Finding>;
+}
+
+// The strict readers take the same value, or none.
+fn same_strict<'a, T: Structure<'a>>(
+    alloc: Global,
+    i: &'a [u8],
+    rest: &[u8],
+    value: &T,
+) -> Result<(), Finding> {
+    match T::strict(alloc, i) {
+        Ok(Some((strict_rest, same))) => {
+            kept(Promise::Strict, strict_rest == rest && value.is_same(&same))
+        }
+        Ok(None) => Ok(()),
+        Err(finding) => Err(finding),
+    }
+}
+
+// What is promised of a structure that was taken.
+fn promised<'a, T: Structure<'a>>(
+    alloc: Global,
+    i: &'a [u8],
+    rest: &[u8],
+    value: &T,
+) -> Result<(), Finding> {
+    same_strict(alloc, i, rest, value)?;
+    let (whole, part) = value.windows();
+    consumed(i, rest, whole)?;
+    signed(whole, part)?;
+    value.others(alloc)
+}
+
+// Looks at a structure, strict and not, and tells whether it is taken.
+fn looks_at<'a, T: Structure<'a>>(alloc: Global, i: &'a [u8]) -> Result<bool, Finding> {
+    match T::loose(alloc, i) {
+        Ok(Some((rest, value))) => match promised(alloc, i, rest, &value) {
+            Ok(()) => Ok(true),
+            Err(finding) => Err(finding),
+        },
+        Ok(None) => {
+            let strict = is_taken(T::strict(alloc, i))?;
+            kept(Promise::Strict, !strict)?;
+            Ok(false)
+        }
+        Err(finding) => Err(finding),
     }
 }
 
@@ -179,38 +264,43 @@ fn certificate_by<'a>(
 ) -> Result<Taken<'a, X509Certificate<'a>>, Finding> {
     let mut tries = Tries::new();
     let read = parser.read(alloc, &mut tries, i);
-    counted(i, &tries)?;
-    taken(i, read)
+    counted(i, &tries, read)
+}
+
+impl<'a> Structure<'a> for X509Certificate<'a> {
+    fn loose(alloc: Global, i: &'a [u8]) -> Result<Taken<'a, X509Certificate<'a>>, Finding> {
+        certificate_by(alloc, X509CertificateParser::new(), i)
+    }
+
+    fn strict(alloc: Global, i: &'a [u8]) -> Result<Taken<'a, X509Certificate<'a>>, Finding> {
+        certificate_by(alloc, X509CertificateParser::new().with_strict(true), i)
+    }
+
+    fn is_same(&self, other: &X509Certificate<'a>) -> bool {
+        *other == *self
+    }
+
+    fn windows(&self) -> (&'a [u8], &'a [u8]) {
+        (self.as_raw(), self.tbs_certificate.as_ref())
+    }
+
+    fn others(&self, alloc: Global) -> Result<(), Finding> {
+        let tbs = &self.tbs_certificate;
+        again(alloc, tbs.as_ref(), tbs)?;
+        copied(self)
+    }
 }
 
 /// Looks at a certificate at both depths, strict and not.
 pub fn certificate(alloc: Global, i: &[u8]) -> Result<(), Finding> {
-    let parser = X509CertificateParser::new();
-    let deep = certificate_by(alloc, parser, i)?;
-    let shallow = certificate_by(alloc, parser.with_deep_parse_extensions(false), i)?;
-    let strict = certificate_by(alloc, parser.with_strict(true), i)?;
-    kept(Promise::Depths, deep.is_some() == shallow.is_some())?;
-    let Some((rest, value)) = deep else {
-        return kept(Promise::Strict, strict.is_none());
-    };
-    if let Some((strict_rest, same)) = strict {
-        kept(Promise::Strict, strict_rest == rest && same == value)?;
-    }
-    consumed(i, rest, value.as_raw())?;
-    signed(value.as_raw(), value.tbs_certificate.as_ref())?;
-    again(
-        alloc,
-        value.tbs_certificate.as_ref(),
-        &value.tbs_certificate,
-    )?;
-    copied(&value)
+    let parser = X509CertificateParser::new().with_deep_parse_extensions(false);
+    let shallow = is_taken(certificate_by(alloc, parser, i))?;
+    let deep = looks_at::<X509Certificate>(alloc, i)?;
+    kept(Promise::Depths, deep == shallow)
 }
 
 // The index over a list finds of each entry what the list finds.
-fn indexed(list: &TbsCertList<'_>) -> Result<(), Finding> {
-    let Ok(index) = RevocationIndex::build(list) else {
-        return Err(Finding::Memory);
-    };
+fn indexed_by(list: &TbsCertList<'_>, index: &RevocationIndex<'_>) -> Result<(), Finding> {
     for entry in list.revoked_certificates.as_slice() {
         let serial = entry.serial();
         kept(
@@ -221,92 +311,130 @@ fn indexed(list: &TbsCertList<'_>) -> Result<(), Finding> {
     Ok(())
 }
 
+// The index over a list.
+fn indexed(list: &TbsCertList<'_>) -> Result<(), Finding> {
+    match RevocationIndex::build(list) {
+        Ok(index) => indexed_by(list, &index),
+        Err(_) => Err(Finding::Memory),
+    }
+}
+
+impl<'a> Structure<'a> for CertificateRevocationList<'a> {
+    fn loose(
+        alloc: Global,
+        i: &'a [u8],
+    ) -> Result<Taken<'a, CertificateRevocationList<'a>>, Finding> {
+        let mut tries = Tries::new();
+        let read = CertificateRevocationList::read(alloc, &mut tries, i);
+        counted(i, &tries, read)
+    }
+
+    fn strict(
+        alloc: Global,
+        i: &'a [u8],
+    ) -> Result<Taken<'a, CertificateRevocationList<'a>>, Finding> {
+        taken(i, parse_x509_crl_strict(alloc, i))
+    }
+
+    fn is_same(&self, other: &CertificateRevocationList<'a>) -> bool {
+        other.tbs_cert_list == self.tbs_cert_list
+            && other.signature_algorithm == self.signature_algorithm
+            && other.signature_value == self.signature_value
+    }
+
+    fn windows(&self) -> (&'a [u8], &'a [u8]) {
+        (self.as_raw(), self.tbs_cert_list.as_ref())
+    }
+
+    fn others(&self, alloc: Global) -> Result<(), Finding> {
+        let list = &self.tbs_cert_list;
+        again(alloc, list.as_ref(), list)?;
+        copied(list)?;
+        indexed(list)
+    }
+}
+
 /// Looks at a list, strict and not.
 pub fn list(alloc: Global, i: &[u8]) -> Result<(), Finding> {
-    let mut tries = Tries::new();
-    let read = CertificateRevocationList::read(alloc, &mut tries, i);
-    counted(i, &tries)?;
-    let loose = taken(i, read)?;
-    let strict = taken(i, parse_x509_crl_strict(alloc, i))?;
-    let Some((rest, value)) = loose else {
-        return kept(Promise::Strict, strict.is_none());
-    };
-    if let Some((strict_rest, same)) = strict {
-        kept(
-            Promise::Strict,
-            strict_rest == rest
-                && same.tbs_cert_list == value.tbs_cert_list
-                && same.signature_algorithm == value.signature_algorithm
-                && same.signature_value == value.signature_value,
-        )?;
+    looks_at::<CertificateRevocationList>(alloc, i)?;
+    Ok(())
+}
+
+impl<'a> Structure<'a> for X509CertificationRequest<'a> {
+    fn loose(
+        alloc: Global,
+        i: &'a [u8],
+    ) -> Result<Taken<'a, X509CertificationRequest<'a>>, Finding> {
+        let mut tries = Tries::new();
+        let read = X509CertificationRequest::read(alloc, &mut tries, i);
+        counted(i, &tries, read)
     }
-    consumed(i, rest, value.as_raw())?;
-    signed(value.as_raw(), value.tbs_cert_list.as_ref())?;
-    again(alloc, value.tbs_cert_list.as_ref(), &value.tbs_cert_list)?;
-    copied(&value.tbs_cert_list)?;
-    indexed(&value.tbs_cert_list)
+
+    fn strict(
+        alloc: Global,
+        i: &'a [u8],
+    ) -> Result<Taken<'a, X509CertificationRequest<'a>>, Finding> {
+        taken(i, parse_x509_csr_strict(alloc, i))
+    }
+
+    fn is_same(&self, other: &X509CertificationRequest<'a>) -> bool {
+        *other == *self
+    }
+
+    fn windows(&self) -> (&'a [u8], &'a [u8]) {
+        (self.as_raw(), self.certification_request_info.raw)
+    }
+
+    fn others(&self, alloc: Global) -> Result<(), Finding> {
+        let info = &self.certification_request_info;
+        again(alloc, info.raw, info)
+    }
 }
 
 /// Looks at a request, strict and not.
 pub fn request(alloc: Global, i: &[u8]) -> Result<(), Finding> {
-    let mut tries = Tries::new();
-    let read = X509CertificationRequest::read(alloc, &mut tries, i);
-    counted(i, &tries)?;
-    let loose = taken(i, read)?;
-    let strict = taken(i, parse_x509_csr_strict(alloc, i))?;
-    let Some((rest, value)) = loose else {
-        return kept(Promise::Strict, strict.is_none());
-    };
-    if let Some((strict_rest, same)) = strict {
-        kept(Promise::Strict, strict_rest == rest && same == value)?;
-    }
-    consumed(i, rest, value.as_raw())?;
-    signed(value.as_raw(), value.certification_request_info.raw)?;
-    again(
-        alloc,
-        value.certification_request_info.raw,
-        &value.certification_request_info,
-    )
+    looks_at::<X509CertificationRequest>(alloc, i)?;
+    Ok(())
 }
 
-/// Looks at an extension with what its value says, and tells whether it is taken.
-fn deep_extension(alloc: Global, i: &[u8]) -> Result<bool, Finding> {
-    let mut tries = Tries::new();
-    let read = X509Extension::read(alloc, &mut tries, i);
-    counted(i, &tries)?;
-    match taken(i, read)? {
-        Some((_, value)) => {
-            copied(&value)?;
-            Ok(true)
-        }
-        None => Ok(false),
+// Looks at the copy of what is taken, and tells whether it is.
+fn copied_if_taken<T: TryClone + PartialEq + Show>(
+    taken: Result<Taken<'_, T>, Finding>,
+) -> Result<bool, Finding> {
+    match taken {
+        Ok(Some((_, value))) => match copied(&value) {
+            Ok(()) => Ok(true),
+            Err(finding) => Err(finding),
+        },
+        Ok(None) => Ok(false),
+        Err(finding) => Err(finding),
     }
-}
-
-/// Tells whether an extension is taken whose value isn't looked at.
-fn shallow_extension(alloc: Global, i: &[u8]) -> Result<bool, Finding> {
-    let shallow = X509ExtensionParser::new().with_deep_parse_extensions(false);
-    let mut tries = Tries::new();
-    let read = shallow.read(alloc, &mut tries, i);
-    counted(i, &tries)?;
-    Ok(taken(i, read)?.is_some())
 }
 
 /// Looks at an extension at both depths.
 pub fn extension(alloc: Global, i: &[u8]) -> Result<(), Finding> {
-    let deep = deep_extension(alloc, i)?;
-    let shallow = shallow_extension(alloc, i)?;
+    let mut tries = Tries::new();
+    let read = X509Extension::read(alloc, &mut tries, i);
+    let deep = copied_if_taken(counted(i, &tries, read))?;
+    let parser = X509ExtensionParser::new().with_deep_parse_extensions(false);
+    let mut tries = Tries::new();
+    let read = parser.read(alloc, &mut tries, i);
+    let shallow = is_taken(counted(i, &tries, read))?;
     kept(Promise::Depths, deep == shallow)
+}
+
+// Looks at a name that was taken.
+fn promised_of_name(i: &[u8], name: &X509Name<'_>) -> Result<(), Finding> {
+    kept(Promise::Windows, i.starts_with(name.as_raw()))?;
+    copied(name)
 }
 
 /// Looks at a name.
 pub fn name(alloc: Global, i: &[u8]) -> Result<(), Finding> {
-    match taken(i, X509Name::from_der(alloc, i))? {
-        Some((_, value)) => {
-            kept(Promise::Windows, i.starts_with(value.as_raw()))?;
-            copied(&value)
-        }
-        None => Ok(()),
+    match taken(i, X509Name::from_der(alloc, i)) {
+        Ok(Some((_, value))) => promised_of_name(i, &value),
+        Ok(None) => Ok(()),
+        Err(finding) => Err(finding),
     }
 }
 

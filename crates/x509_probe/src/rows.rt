@@ -3,6 +3,7 @@
 use crate::answers;
 use hex::FromHexError;
 use std::alloc::{AllocError, Global};
+use x509_probe_show::Answer;
 
 /// A row: a word, and what it is asked of.
 #[derive(Drop)]
@@ -68,23 +69,31 @@ pub fn row_of(alloc: Global, line: &[u8]) -> Result<Row<'_>, NoRow> {
 }
 
 /// Adds the answer to the row of a line.
-fn put_answer(alloc: Global, line: &[u8], out: &mut String) -> Result<(), NoRow> {
-    let row = row_of(alloc, line)?;
-    if answers::answer(alloc, row.word, &row.first, &row.second, out)? {
-        return Ok(());
+fn put_answer(line: &[u8], out: &mut Answer) -> Result<(), NoRow> {
+    match row_of(out.alloc(), line) {
+        Ok(row) => {
+            if answers::answer(row.word, &row.first, &row.second, out) {
+                Ok(())
+            } else {
+                Err(NoRow::Bad("no such word"))
+            }
+        }
+        Err(no_row) => Err(no_row),
     }
-    Err(NoRow::Bad("no such word"))
 }
 
-/// Adds the answer to the row of a line, and tells whether it can be read.
-pub fn answer(alloc: Global, line: &[u8], out: &mut String) -> Result<bool, AllocError> {
-    match put_answer(alloc, line, out) {
-        Ok(()) => Ok(true),
+/// Adds the answer to the row of a line, and tells whether the row can be read.
+pub fn answer(line: &[u8], out: &mut Answer) -> bool {
+    match put_answer(line, out) {
+        Ok(()) => true,
         Err(NoRow::Bad(why)) => {
-            out.push_str("bad row: ")?;
-            out.push_str(why)?;
-            Ok(false)
+            out.add("bad row: ");
+            out.add(why);
+            false
         }
-        Err(NoRow::Memory) => Err(AllocError),
+        Err(NoRow::Memory) => {
+            out.stop();
+            false
+        }
     }
 }

@@ -1,183 +1,97 @@
-//! Comparisons, texts and calls that read nothing.
+//! Numbers, identifiers and serials as texts, and certificates by calls of the facade.
 
-use std::alloc::{AllocError, Global};
-use std::cmp::Ordering;
-use x509_parser::certificate::Validity;
-use x509_parser::der::{FromDer, Oid, UnsignedBytes};
-use x509_parser::time::ASN1Time;
+use crate::columns::put_read;
+use x509_parser::certificate::X509Certificate;
+use x509_parser::der::{Oid, UnsignedBytes};
 use x509_parser::utils::format_serial;
 use x509_parser::x509::X509Version;
 use x509_parser::{parse_x509_certificate, parse_x509_der};
-use x509_probe_show::{Show, put_error, put_hex, put_named_error, put_refusal, put_refused};
+use x509_probe_show::{Answer, Look, Show, look_at};
 
-// The word for an order.
-fn order_word(order: Ordering) -> &'static str {
-    match order {
-        Ordering::Less => "less",
-        Ordering::Equal => "equal",
-        Ordering::Greater => "greater",
-    }
-}
-
-// Whether two values are the same, and which comes first.
-fn put_order(out: &mut String, equal: bool, order: Ordering) -> Result<(), AllocError> {
-    out.push_str(if equal { "same " } else { "other " })?;
-    out.push_str(order_word(order))
-}
-
-// Two times, compared.
-fn put_times(alloc: Global, a: &[u8], b: &[u8], out: &mut String) -> Result<(), AllocError> {
-    match (ASN1Time::from_der(alloc, a), ASN1Time::from_der(alloc, b)) {
-        (Ok((_, a)), Ok((_, b))) => put_order(out, a == b, a.cmp(&b)),
-        (Err(refusal), _) => put_refused(out, &refusal),
-        (_, Err(refusal)) => put_refused(out, &refusal),
-    }
-}
-
-// Whether a validity has a moment.
-fn put_valid(alloc: Global, a: &[u8], b: &[u8], out: &mut String) -> Result<(), AllocError> {
-    match (Validity::from_der(alloc, a), ASN1Time::from_der(alloc, b)) {
-        (Ok((_, validity)), Ok((_, time))) => out.push_str(if validity.is_valid_at(time) {
-            "valid"
-        } else {
-            "not valid"
-        }),
-        (Err(refusal), _) => put_refused(out, &refusal),
-        (_, Err(refusal)) => put_refused(out, &refusal),
-    }
-}
-
-// The time of so many seconds.
-fn put_timestamp(alloc: Global, a: &[u8], out: &mut String) -> Result<(), AllocError> {
-    match a {
-        [b0, b1, b2, b3, b4, b5, b6, b7] => {
-            let seconds = i64::from_be_bytes([*b0, *b1, *b2, *b3, *b4, *b5, *b6, *b7]);
-            match ASN1Time::from_timestamp(seconds) {
-                Ok(time) => time.show(alloc, out),
-                Err(kind) => put_named_error(out, &kind),
-            }
-        }
-        _ => out.push_str("eight bytes"),
+// Four octets as a number.
+fn number_in(bytes: &[u8]) -> Option<u32> {
+    match bytes {
+        [b0, b1, b2, b3] => Some(u32::from_be_bytes([*b0, *b1, *b2, *b3])),
+        _ => None,
     }
 }
 
 // Whether digits are a number.
-fn put_number(out: &mut String, digits: &[u8], number: &[u8]) -> Result<(), AllocError> {
-    match number {
-        [b0, b1, b2, b3] => {
-            let number = u32::from_be_bytes([*b0, *b1, *b2, *b3]);
+fn put_number(out: &mut Answer, digits: &[u8], number: &[u8]) {
+    match number_in(number) {
+        Some(number) => {
             let equal = UnsignedBytes::new(digits).is_u32(number);
-            out.push_str(if equal { "yes" } else { "no" })
+            out.add(if equal { "yes" } else { "no" });
         }
-        _ => out.push_str("four bytes"),
+        None => out.add("four bytes"),
     }
 }
 
 // The text of a version.
-fn put_version(alloc: Global, number: &[u8], out: &mut String) -> Result<(), AllocError> {
-    match number {
-        [b0, b1, b2, b3] => {
-            X509Version(u32::from_be_bytes([*b0, *b1, *b2, *b3])).show(alloc, out)
-        }
-        _ => out.push_str("four bytes"),
+fn put_version(number: &[u8], out: &mut Answer) {
+    match number_in(number) {
+        Some(number) => X509Version(number).show(out),
+        None => out.add("four bytes"),
     }
 }
 
 // The text of a serial.
-fn put_serial(alloc: Global, a: &[u8], out: &mut String) -> Result<(), AllocError> {
-    match format_serial(alloc, a) {
-        Ok(text) => out.push_str(text.as_str()),
-        Err(kind) => put_named_error(out, &kind),
+fn put_serial(a: &[u8], out: &mut Answer) {
+    match format_serial(out.alloc(), a) {
+        Ok(text) => out.add(text.as_str()),
+        Err(kind) => out.named_error(&kind),
     }
 }
 
 // A certificate by two names of the same call.
-fn put_parsed(alloc: Global, a: &[u8], out: &mut String) -> Result<(), AllocError> {
-    match parse_x509_certificate(alloc, a) {
-        Ok((rest, certificate)) => {
-            let length = rest.len();
-            write!(out, "ok rest={length} ")?;
-            certificate.show(alloc, out)?;
-        }
-        Err(refusal) => put_refusal(out, &refusal)?,
-    }
-    out.push_str(" | ")?;
-    match parse_x509_der(alloc, a) {
-        Ok((rest, certificate)) => {
-            let length = rest.len();
-            write!(out, "ok rest={length} ")?;
-            certificate.show(alloc, out)
-        }
-        Err(refusal) => put_refusal(out, &refusal),
-    }
+fn put_parsed(a: &[u8], out: &mut Answer) {
+    let alloc = out.alloc();
+    put_read(out, parse_x509_certificate(alloc, a));
+    out.add(" | ");
+    put_read(out, parse_x509_der(alloc, a));
 }
 
-// The fields of a certificate by calls of its own.
-fn put_fields(alloc: Global, a: &[u8], out: &mut String) -> Result<(), AllocError> {
-    match parse_x509_certificate(alloc, a) {
-        Ok((_, value)) => {
-            value.version().show(alloc, out)?;
-            out.push_str(";")?;
-            put_hex(out, value.raw_serial())?;
-            out.push_str(";")?;
-            match value.raw_serial_as_string(alloc) {
-                Ok(text) => put_hex(out, text.as_bytes())?,
-                Err(kind) => put_error(out, &kind)?,
-            }
-            out.push_str(";")?;
-            put_hex(out, value.issuer().as_raw())?;
-            out.push_str(";")?;
-            put_hex(out, value.subject().as_raw())?;
-            out.push_str(";")?;
-            value.validity().show(alloc, out)?;
-            out.push_str(";")?;
-            put_hex(out, value.public_key().raw)?;
-            let count = value.extensions().len();
-            write!(out, ";{count};")?;
-            put_hex(out, value.as_ref())
-        }
-        Err(refusal) => put_refused(out, &refusal),
+/// The fields of a certificate by calls of its own.
+struct Fields;
+
+impl Look<X509Certificate<'_>> for Fields {
+    fn look(&self, value: &X509Certificate<'_>, out: &mut Answer) {
+        value.version().show(out);
+        out.add(";");
+        out.hex(value.raw_serial());
+        out.add(";");
+        out.made_hex(value.raw_serial_as_string(out.alloc()));
+        out.add(";");
+        out.hex(value.issuer().as_raw());
+        out.add(";");
+        out.hex(value.subject().as_raw());
+        out.add(";");
+        value.validity().show(out);
+        out.add(";");
+        out.hex(value.public_key().raw);
+        out.add(";");
+        out.display(&value.extensions().len());
+        out.add(";");
+        out.hex(value.as_ref());
     }
 }
 
-// Two identifiers, compared.
-fn put_identifiers(out: &mut String, a: &[u8], b: &[u8]) -> Result<(), AllocError> {
-    let (a, b) = (Oid::new(a), Oid::new(b));
-    put_order(out, a == b, a.cmp(&b))?;
-    out.push_str(if a.starts_with(&b) {
-        " begins"
-    } else {
-        " differs"
-    })
-}
-
-// Two numbers, compared.
-fn put_unsigned(out: &mut String, a: &[u8], b: &[u8]) -> Result<(), AllocError> {
-    let (a, b) = (UnsignedBytes::new(a), UnsignedBytes::new(b));
-    put_order(out, a == b, a.cmp(&b))
+// The fields of a certificate.
+fn put_fields(a: &[u8], out: &mut Answer) {
+    let read = parse_x509_certificate(out.alloc(), a);
+    look_at(out, &Fields, read);
 }
 
 /// Adds the answer of a call; false where the word names none.
-pub fn answer(
-    alloc: Global,
-    word: &str,
-    a: &[u8],
-    b: &[u8],
-    out: &mut String,
-) -> Result<bool, AllocError> {
+pub fn answer(word: &str, a: &[u8], b: &[u8], out: &mut Answer) -> bool {
     match word {
-        "unsigned_order" => put_unsigned(out, a, b)?,
-        "is_u32" => put_number(out, a, b)?,
-        "oid_text" => Oid::new(a).show(alloc, out)?,
-        "oid_order" => put_identifiers(out, a, b)?,
-        "time_order" => put_times(alloc, a, b, out)?,
-        "valid_at" => put_valid(alloc, a, b, out)?,
-        "from_timestamp" => put_timestamp(alloc, a, out)?,
-        "version_text" => put_version(alloc, a, out)?,
-        "format_serial" => put_serial(alloc, a, out)?,
-        "parse" => put_parsed(alloc, a, out)?,
-        "certificate_fields" => put_fields(alloc, a, out)?,
-        _ => return Ok(false),
+        "is_u32" => put_number(out, a, b),
+        "oid_text" => Oid::new(a).show(out),
+        "version_text" => put_version(a, out),
+        "format_serial" => put_serial(a, out),
+        "parse" => put_parsed(a, out),
+        "certificate_fields" => put_fields(a, out),
+        _ => return false,
     }
-    Ok(true)
+    true
 }

@@ -1,98 +1,107 @@
 //! Maps that took a list: under each identifier what stood with it.
 
-use std::alloc::{AllocError, Global};
+use crate::pairs::read_both;
 use std::collections::HashMap;
 use x509_parser::der::{FromDer, Oid};
+use x509_parser::error::X509Error;
 use x509_parser::extensions::{
-    AccessDescription, AuthorityInfoAccess, GeneralName, PolicyMappings, SubjectInfoAccess,
+    AccessDescription, AuthorityInfoAccess, GeneralName, PolicyMapping, PolicyMappings,
+    SubjectInfoAccess,
 };
-use x509_probe_show::{Hasher, Show, put_error, put_hex, put_refused};
+use x509_probe_show::{Answer, Hasher, Show};
 
-// For each member, the group of its identifier in the map that took the list.
-fn put_mappings(alloc: Global, a: &[u8], out: &mut String) -> Result<(), AllocError> {
-    match (
-        PolicyMappings::from_der(alloc, a),
-        PolicyMappings::from_der(alloc, a),
-    ) {
-        (Ok((_, kept)), Ok((_, taken))) => match taken.into_hashmap(alloc, Hasher::new()) {
-            Ok(map) => {
-                let count = map.len();
-                write!(out, "{count}")?;
-                for member in kept.mappings.as_slice() {
-                    out.push_str("{")?;
-                    if let Some(group) = map.get(&member.issuer_domain_policy) {
-                        for held in group {
-                            out.push_str(",")?;
-                            put_hex(out, held.as_bytes())?;
-                        }
-                    }
-                    out.push_str("}")?;
-                }
-                Ok(())
-            }
-            Err(kind) => put_error(out, &kind),
-        },
-        (Err(refusal), _) | (_, Err(refusal)) => put_refused(out, &refusal),
-    }
+/// A list that a map can take.
+trait IntoGroups<'a>: FromDer<'a, X509Error> + Show {
+    /// Adds, for each member of an equal list, the group of its identifier in the map that takes this one.
+    fn put_groups(self, equal: &Self, out: &mut Answer);
 }
 
-// For each access, the locations under its method in the map that took the list.
-fn put_locations<'a>(
-    alloc: Global,
-    out: &mut String,
-    accesses: &[AccessDescription<'a>],
-    map: &HashMap<Oid<'a>, Vec<GeneralName<'a>>, Hasher>,
-) -> Result<(), AllocError> {
-    let count = map.len();
-    write!(out, "{count}")?;
-    for access in accesses {
-        out.push_str("{")?;
-        if let Some(group) = map.get(&access.access_method) {
-            for held in group {
-                out.push_str(",")?;
-                held.show(alloc, out)?;
+// The policies that each mapping's policy is mapped to.
+fn put_policies<'a>(
+    out: &mut Answer,
+    mappings: &[PolicyMapping<'a>],
+    map: &HashMap<Oid<'a>, Vec<Oid<'a>>, Hasher>,
+) {
+    out.display(&map.len());
+    for mapping in mappings {
+        out.add("{");
+        if let Some(group) = map.get(&mapping.issuer_domain_policy) {
+            for policy in group {
+                out.add(",");
+                out.hex(policy.as_bytes());
             }
         }
-        out.push_str("}")?;
-    }
-    Ok(())
-}
-
-// The locations of an authority's accesses, by their methods.
-fn put_authority(alloc: Global, a: &[u8], out: &mut String) -> Result<(), AllocError> {
-    match (
-        AuthorityInfoAccess::from_der(alloc, a),
-        AuthorityInfoAccess::from_der(alloc, a),
-    ) {
-        (Ok((_, kept)), Ok((_, taken))) => match taken.into_hashmap(alloc, Hasher::new()) {
-            Ok(map) => put_locations(alloc, out, kept.accessdescs.as_slice(), &map),
-            Err(kind) => put_error(out, &kind),
-        },
-        (Err(refusal), _) | (_, Err(refusal)) => put_refused(out, &refusal),
+        out.add("}");
     }
 }
 
-// The locations of a subject's accesses, by their methods.
-fn put_subject(alloc: Global, a: &[u8], out: &mut String) -> Result<(), AllocError> {
-    match (
-        SubjectInfoAccess::from_der(alloc, a),
-        SubjectInfoAccess::from_der(alloc, a),
-    ) {
-        (Ok((_, kept)), Ok((_, taken))) => match taken.into_hashmap(alloc, Hasher::new()) {
-            Ok(map) => put_locations(alloc, out, kept.accessdescs.as_slice(), &map),
-            Err(kind) => put_error(out, &kind),
-        },
-        (Err(refusal), _) | (_, Err(refusal)) => put_refused(out, &refusal),
+impl<'a> IntoGroups<'a> for PolicyMappings<'a> {
+    fn put_groups(self, equal: &Self, out: &mut Answer) {
+        match self.into_hashmap(out.alloc(), Hasher::new()) {
+            Ok(map) => put_policies(out, equal.mappings.as_slice(), &map),
+            Err(kind) => out.error(&kind),
+        }
+    }
+}
+
+/// The locations of accesses, by their methods.
+type Locations<'a> = HashMap<Oid<'a>, Vec<GeneralName<'a>>, Hasher>;
+
+// The locations of each access's method.
+fn put_locations<'a>(out: &mut Answer, accesses: &[AccessDescription<'a>], map: &Locations<'a>) {
+    out.display(&map.len());
+    for access in accesses {
+        out.add("{");
+        if let Some(group) = map.get(&access.access_method) {
+            for location in group {
+                out.add(",");
+                location.show(out);
+            }
+        }
+        out.add("}");
+    }
+}
+
+// The same of a map that was made.
+fn put_made<'a>(
+    out: &mut Answer,
+    accesses: &[AccessDescription<'a>],
+    made: Result<Locations<'a>, X509Error>,
+) {
+    match made {
+        Ok(map) => put_locations(out, accesses, &map),
+        Err(kind) => out.error(&kind),
+    }
+}
+
+impl<'a> IntoGroups<'a> for AuthorityInfoAccess<'a> {
+    fn put_groups(self, equal: &Self, out: &mut Answer) {
+        let made = self.into_hashmap(out.alloc(), Hasher::new());
+        put_made(out, equal.accessdescs.as_slice(), made);
+    }
+}
+
+impl<'a> IntoGroups<'a> for SubjectInfoAccess<'a> {
+    fn put_groups(self, equal: &Self, out: &mut Answer) {
+        let made = self.into_hashmap(out.alloc(), Hasher::new());
+        put_made(out, equal.accessdescs.as_slice(), made);
+    }
+}
+
+// The groups of a list, which is read twice: a map takes one.
+fn grouped<'a, T: IntoGroups<'a>>(a: &'a [u8], out: &mut Answer) {
+    if let Some((taken, equal)) = read_both::<T, T>(out, a, a) {
+        taken.put_groups(&equal, out);
     }
 }
 
 /// Adds the groups of a map; false where the word names none.
-pub fn answer(alloc: Global, word: &str, a: &[u8], out: &mut String) -> Result<bool, AllocError> {
+pub fn answer(word: &str, a: &[u8], out: &mut Answer) -> bool {
     match word {
-        "into_policy_mappings" => put_mappings(alloc, a, out)?,
-        "into_authority_info_access" => put_authority(alloc, a, out)?,
-        "into_subject_info_access" => put_subject(alloc, a, out)?,
-        _ => return Ok(false),
+        "into_policy_mappings" => grouped::<PolicyMappings>(a, out),
+        "into_authority_info_access" => grouped::<AuthorityInfoAccess>(a, out),
+        "into_subject_info_access" => grouped::<SubjectInfoAccess>(a, out),
+        _ => return false,
     }
-    Ok(true)
+    true
 }

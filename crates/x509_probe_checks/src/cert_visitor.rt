@@ -1,6 +1,6 @@
 //! A visitor of certificates with a method for each visit.
 
-use crate::visit_record::Recorder;
+use crate::recorder::Recorder;
 use x509_parser::certificate::{TbsCertificate, UniqueIdentifier, Validity};
 use x509_parser::der::{BerError, BitString, Err};
 use x509_parser::error::X509Error;

@@ -1,91 +1,65 @@
 //! Walks over certificates.
 
-use crate::visit_record::{Recorder, RecorderByValue, number, put_end};
-use std::alloc::{AllocError, Global};
+use crate::recorder::{Recorder, RecorderByValue, Walk, WalkByValue, number, put_end};
 use x509_parser::certificate::{TbsCertificate, X509Certificate, X509CertificateParser};
-use x509_parser::der::{Err, FromDer};
-use x509_parser::visitor::{CertificateVisits, WalkCertificate, X509CertificateVisitor};
-use x509_probe_show::put_refused;
+use x509_parser::error::X509Error;
+use x509_parser::visitor::{
+    CertificateVisit, CertificateVisits, WalkCertificate, X509CertificateVisitor,
+};
+use x509_probe_show::{Answer, Look, look_at, look_in};
 
-// The visits of a certificate, by a method for each.
-fn certificate(alloc: Global, a: &[u8], refused: u32, out: &mut String) -> Result<(), AllocError> {
-    match X509Certificate::from_der(alloc, a) {
-        Ok((_, value)) => {
-            let mut visitor = Recorder::new(alloc, refused);
-            let outcome = visitor.walk(&value);
-            put_end(out, outcome, visitor.out.as_str())
-        }
-        Err(refusal) => put_refused(out, &refusal),
+impl CertificateVisits for RecorderByValue {
+    ghost use Rattle.std.specs.Prelude.{⊤};
+
+    ghost visit_step = { λ _ _ _ _. ⊤ };
+
+    fn visit(&mut self, visit: CertificateVisit<'_, '_>) -> Result<(), X509Error> {
+        self.0.visit(visit)
     }
 }
 
-// The same by values.
-fn certificate_by_value(
-    alloc: Global,
-    a: &[u8],
-    refused: u32,
-    out: &mut String,
-) -> Result<(), AllocError> {
-    match X509Certificate::from_der(alloc, a) {
-        Ok((_, value)) => {
-            let mut visitor = RecorderByValue(Recorder::new(alloc, refused));
-            let outcome = value.walk(&mut visitor);
-            put_end(out, outcome, visitor.0.out.as_str())
-        }
-        Err(refusal) => put_refused(out, &refusal),
+impl Look<X509Certificate<'_>> for Walk {
+    fn look(&self, certificate: &X509Certificate<'_>, out: &mut Answer) {
+        let mut visitor = Recorder::new(out.alloc(), self.0);
+        let outcome = visitor.walk(certificate);
+        put_end(out, outcome, visitor.log());
+    }
+}
+
+impl Look<X509Certificate<'_>> for WalkByValue {
+    fn look(&self, certificate: &X509Certificate<'_>, out: &mut Answer) {
+        let mut visitor = RecorderByValue(Recorder::new(out.alloc(), self.0));
+        let outcome = certificate.walk(&mut visitor);
+        put_end(out, outcome, visitor.0.log());
+    }
+}
+
+impl Look<TbsCertificate<'_>> for Walk {
+    fn look(&self, tbs: &TbsCertificate<'_>, out: &mut Answer) {
+        let mut visitor = Recorder::new(out.alloc(), self.0);
+        let outcome = tbs.walk(&mut visitor);
+        put_end(out, outcome, visitor.log());
     }
 }
 
 // The visits of a certificate without what the values of its extensions say.
-fn certificate_shallow(
-    alloc: Global,
-    a: &[u8],
-    refused: u32,
-    out: &mut String,
-) -> Result<(), AllocError> {
+fn shallow(a: &[u8], walk: Walk, out: &mut Answer) {
     let parser = X509CertificateParser::new().with_deep_parse_extensions(false);
-    match parser.parse(alloc, a) {
-        Ok((_, value)) => {
-            let mut visitor = Recorder::new(alloc, refused);
-            let outcome = visitor.walk(&value);
-            put_end(out, outcome, visitor.out.as_str())
-        }
-        Err(refusal) => put_refused(out, &refusal),
-    }
-}
-
-// The visits of a signed part alone.
-fn certificate_part(
-    alloc: Global,
-    a: &[u8],
-    refused: u32,
-    out: &mut String,
-) -> Result<(), AllocError> {
-    match TbsCertificate::from_der(alloc, a) {
-        Ok((_, value)) => {
-            let mut visitor = Recorder::new(alloc, refused);
-            let outcome = value.walk(&mut visitor);
-            put_end(out, outcome, visitor.out.as_str())
-        }
-        Err(refusal) => put_refused(out, &refusal),
-    }
+    let read = parser.parse(out.alloc(), a);
+    look_at(out, &walk, read);
 }
 
 /// Adds the visits; false where the word names none.
-pub fn answer(
-    alloc: Global,
-    word: &str,
-    a: &[u8],
-    b: &[u8],
-    out: &mut String,
-) -> Result<bool, AllocError> {
+pub fn answer(word: &str, a: &[u8], b: &[u8], out: &mut Answer) -> bool {
     let refused = number(b);
     match word {
-        "visits_certificate" => certificate(alloc, a, refused, out)?,
-        "visits_certificate_by_value" => certificate_by_value(alloc, a, refused, out)?,
-        "visits_certificate_shallow" => certificate_shallow(alloc, a, refused, out)?,
-        "visits_tbs" => certificate_part(alloc, a, refused, out)?,
-        _ => return Ok(false),
+        "visits_certificate" => look_in::<X509Certificate, _>(out, &Walk(refused), a),
+        "visits_certificate_by_value" => {
+            look_in::<X509Certificate, _>(out, &WalkByValue(refused), a);
+        }
+        "visits_certificate_shallow" => shallow(a, Walk(refused), out),
+        "visits_tbs" => look_in::<TbsCertificate, _>(out, &Walk(refused), a),
+        _ => return false,
     }
-    Ok(true)
+    true
 }

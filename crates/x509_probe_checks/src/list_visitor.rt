@@ -1,6 +1,6 @@
 //! A visitor of lists with a method for each visit.
 
-use crate::visit_record::Recorder;
+use crate::recorder::Recorder;
 use x509_parser::der::{BerError, BitString, Err, UnsignedBytes};
 use x509_parser::error::X509Error;
 use x509_parser::extensions::{

@@ -1,67 +1,57 @@
 //! Walks over lists.
 
-use crate::visit_record::{Recorder, RecorderByValue, number, put_end};
-use std::alloc::{AllocError, Global};
-use x509_parser::der::{Err, FromDer};
+use crate::recorder::{Recorder, RecorderByValue, Walk, WalkByValue, number, put_end};
+use x509_parser::error::X509Error;
 use x509_parser::revocation_list::{CertificateRevocationList, TbsCertList};
-use x509_parser::visitor::{CertificateRevocationListVisitor, ListVisits, WalkRevocationList};
-use x509_probe_show::put_refused;
+use x509_parser::visitor::{
+    CertificateRevocationListVisitor, ListVisit, ListVisits, WalkRevocationList,
+};
+use x509_probe_show::{Answer, Look, look_in};
 
-// The visits of a list, by a method for each.
-fn list(alloc: Global, a: &[u8], refused: u32, out: &mut String) -> Result<(), AllocError> {
-    match CertificateRevocationList::from_der(alloc, a) {
-        Ok((_, value)) => {
-            let mut visitor = Recorder::new(alloc, refused);
-            let outcome = visitor.walk(&value);
-            put_end(out, outcome, visitor.out.as_str())
-        }
-        Err(refusal) => put_refused(out, &refusal),
+impl ListVisits for RecorderByValue {
+    ghost use Rattle.std.specs.Prelude.{⊤};
+
+    ghost visit_step = { λ _ _ _ _. ⊤ };
+
+    fn visit(&mut self, visit: ListVisit<'_, '_>) -> Result<(), X509Error> {
+        self.0.visit(visit)
     }
 }
 
-// The same by values.
-fn list_by_value(
-    alloc: Global,
-    a: &[u8],
-    refused: u32,
-    out: &mut String,
-) -> Result<(), AllocError> {
-    match CertificateRevocationList::from_der(alloc, a) {
-        Ok((_, value)) => {
-            let mut visitor = RecorderByValue(Recorder::new(alloc, refused));
-            let outcome = value.walk(&mut visitor);
-            put_end(out, outcome, visitor.0.out.as_str())
-        }
-        Err(refusal) => put_refused(out, &refusal),
+impl Look<CertificateRevocationList<'_>> for Walk {
+    fn look(&self, list: &CertificateRevocationList<'_>, out: &mut Answer) {
+        let mut visitor = Recorder::new(out.alloc(), self.0);
+        let outcome = visitor.walk(list);
+        put_end(out, outcome, visitor.log());
     }
 }
 
-// The visits of a signed part alone.
-fn list_part(alloc: Global, a: &[u8], refused: u32, out: &mut String) -> Result<(), AllocError> {
-    match TbsCertList::from_der(alloc, a) {
-        Ok((_, value)) => {
-            let mut visitor = Recorder::new(alloc, refused);
-            let outcome = value.walk(&mut visitor);
-            put_end(out, outcome, visitor.out.as_str())
-        }
-        Err(refusal) => put_refused(out, &refusal),
+impl Look<CertificateRevocationList<'_>> for WalkByValue {
+    fn look(&self, list: &CertificateRevocationList<'_>, out: &mut Answer) {
+        let mut visitor = RecorderByValue(Recorder::new(out.alloc(), self.0));
+        let outcome = list.walk(&mut visitor);
+        put_end(out, outcome, visitor.0.log());
+    }
+}
+
+impl Look<TbsCertList<'_>> for Walk {
+    fn look(&self, tbs: &TbsCertList<'_>, out: &mut Answer) {
+        let mut visitor = Recorder::new(out.alloc(), self.0);
+        let outcome = tbs.walk(&mut visitor);
+        put_end(out, outcome, visitor.log());
     }
 }
 
 /// Adds the visits; false where the word names none.
-pub fn answer(
-    alloc: Global,
-    word: &str,
-    a: &[u8],
-    b: &[u8],
-    out: &mut String,
-) -> Result<bool, AllocError> {
+pub fn answer(word: &str, a: &[u8], b: &[u8], out: &mut Answer) -> bool {
     let refused = number(b);
     match word {
-        "visits_crl" => list(alloc, a, refused, out)?,
-        "visits_crl_by_value" => list_by_value(alloc, a, refused, out)?,
-        "visits_tbs_cert_list" => list_part(alloc, a, refused, out)?,
-        _ => return Ok(false),
+        "visits_crl" => look_in::<CertificateRevocationList, _>(out, &Walk(refused), a),
+        "visits_crl_by_value" => {
+            look_in::<CertificateRevocationList, _>(out, &WalkByValue(refused), a);
+        }
+        "visits_tbs_cert_list" => look_in::<TbsCertList, _>(out, &Walk(refused), a),
+        _ => return false,
     }
-    Ok(true)
+    true
 }

@@ -1,6 +1,5 @@
 //! Copies of values.
 
-use std::alloc::{AllocError, Global};
 use x509_parser::certificate::{TbsCertificate, X509Certificate};
 use x509_parser::cri_attributes::{ExtensionRequest, X509CriAttribute};
 use x509_parser::der::FromDer;
@@ -13,85 +12,101 @@ use x509_parser::extensions::{
 use x509_parser::revocation_list::{CertificateRevocationList, RevokedCertificate, TbsCertList};
 use x509_parser::utils::TryClone;
 use x509_parser::x509::{RelativeDistinguishedName, X509Name};
-use x509_probe_show::{Show, put_error, put_refused};
+use x509_probe_show::{Answer, Look, Show, look_at};
 use x509_usages::PolicyList;
 
-// The copy of a value, and whether it is equal.
-fn copied<'a, T: FromDer<'a, X509Error> + TryClone + Show + PartialEq + Drop>(
-    alloc: Global,
-    a: &'a [u8],
-    out: &mut String,
-) -> Result<bool, AllocError> {
-    match T::from_der(alloc, a) {
-        Ok((_, value)) => match value.try_clone() {
-            Ok(copy) => {
-                out.push_str(if copy == value { "equal " } else { "unequal " })?;
-                copy.show(alloc, out)?;
-            }
-            Err(kind) => put_error(out, &kind)?,
-        },
-        Err(refusal) => put_refused(out, &refusal)?,
-    }
-    Ok(true)
+/// By what a copy is compared to the value.
+trait Compare<T> {
+    /// Whether the copy is equal to it.
+    fn is_equal(value: &T, copy: &T) -> bool;
 }
 
-// The copy of a list, which is equal where its signed part is.
-fn put_list(alloc: Global, a: &[u8], out: &mut String) -> Result<bool, AllocError> {
-    match CertificateRevocationList::from_der(alloc, a) {
-        Ok((_, value)) => match value.try_clone() {
-            Ok(copy) => {
-                let equal = copy.tbs_cert_list == value.tbs_cert_list;
-                out.push_str(if equal { "equal " } else { "unequal " })?;
-                copy.show(alloc, out)?;
-            }
-            Err(kind) => put_error(out, &kind)?,
-        },
-        Err(refusal) => put_refused(out, &refusal)?,
+/// By all of it.
+struct Whole;
+
+impl<T: PartialEq> Compare<T> for Whole {
+    fn is_equal(value: &T, copy: &T) -> bool {
+        *copy == *value
     }
-    Ok(true)
+}
+
+/// By the signed part of a list.
+struct SignedPart;
+
+impl<'a> Compare<CertificateRevocationList<'a>> for SignedPart {
+    fn is_equal(
+        value: &CertificateRevocationList<'a>,
+        copy: &CertificateRevocationList<'a>,
+    ) -> bool {
+        copy.tbs_cert_list == value.tbs_cert_list
+    }
+}
+
+// The copy of a value, and whether it is equal.
+fn put_copy<T: Show, C: Compare<T>>(out: &mut Answer, value: &T, copy: Result<T, X509Error>) {
+    match copy {
+        Ok(copy) => {
+            let equal = C::is_equal(value, &copy);
+            out.add(if equal { "equal " } else { "unequal " });
+            copy.show(out);
+        }
+        Err(kind) => out.error(&kind),
+    }
+}
+
+// The copy of a value that is read.
+fn copied<'a, T: FromDer<'a, X509Error> + TryClone + Show, C: Compare<T>>(
+    a: &'a [u8],
+    out: &mut Answer,
+) {
+    match T::from_der(out.alloc(), a) {
+        Ok((_, value)) => put_copy::<T, C>(out, &value, value.try_clone()),
+        Err(refusal) => out.refused(&refusal),
+    }
+}
+
+/// Copies attributes of requests, which have a call of their own for it.
+struct AttributeCopy;
+
+impl Look<X509CriAttribute<'_>> for AttributeCopy {
+    fn look(&self, value: &X509CriAttribute<'_>, out: &mut Answer) {
+        put_copy::<X509CriAttribute, Whole>(out, value, value.try_clone());
+    }
 }
 
 // The copy of an attribute of a request.
-fn put_attribute(alloc: Global, a: &[u8], out: &mut String) -> Result<bool, AllocError> {
-    match X509CriAttribute::from_der(alloc, a) {
-        Ok((_, value)) => match value.try_clone() {
-            Ok(copy) => {
-                out.push_str(if copy == value { "equal " } else { "unequal " })?;
-                copy.show(alloc, out)?;
-            }
-            Err(kind) => put_error(out, &kind)?,
-        },
-        Err(refusal) => put_refused(out, &refusal)?,
-    }
-    Ok(true)
+fn copied_attribute(a: &[u8], out: &mut Answer) {
+    let read = X509CriAttribute::from_der(out.alloc(), a);
+    look_at(out, &AttributeCopy, read);
 }
 
 /// Adds the copy of a value; false where the word names none.
-pub fn answer(alloc: Global, word: &str, a: &[u8], out: &mut String) -> Result<bool, AllocError> {
+pub fn answer(word: &str, a: &[u8], out: &mut Answer) -> bool {
     match word {
-        "copy_rdn" => copied::<RelativeDistinguishedName>(alloc, a, out),
-        "copy_name" => copied::<X509Name>(alloc, a, out),
-        "copy_general_name" => copied::<GeneralName>(alloc, a, out),
-        "copy_subject_alt_name" => copied::<SubjectAlternativeName>(alloc, a, out),
-        "copy_issuer_alt_name" => copied::<IssuerAlternativeName>(alloc, a, out),
-        "copy_name_constraints" => copied::<NameConstraints>(alloc, a, out),
-        "copy_extended_key_usage" => copied::<ExtendedKeyUsage>(alloc, a, out),
-        "copy_certificate_policies" => copied::<PolicyList>(alloc, a, out),
-        "copy_policy_mappings" => copied::<PolicyMappings>(alloc, a, out),
-        "copy_authority_key_identifier" => copied::<AuthorityKeyIdentifier>(alloc, a, out),
-        "copy_crl_distribution_points" => copied::<CRLDistributionPoints>(alloc, a, out),
-        "copy_issuing_distribution_point" => copied::<IssuingDistributionPoint>(alloc, a, out),
-        "copy_authority_info_access" => copied::<AuthorityInfoAccess>(alloc, a, out),
-        "copy_subject_info_access" => copied::<SubjectInfoAccess>(alloc, a, out),
-        "copy_point_name" => copied::<DistributionPointName>(alloc, a, out),
-        "copy_extension" => copied::<X509Extension>(alloc, a, out),
-        "copy_tbs" => copied::<TbsCertificate>(alloc, a, out),
-        "copy_certificate" => copied::<X509Certificate>(alloc, a, out),
-        "copy_tbs_cert_list" => copied::<TbsCertList>(alloc, a, out),
-        "copy_revoked_certificate" => copied::<RevokedCertificate>(alloc, a, out),
-        "copy_extension_request" => copied::<ExtensionRequest>(alloc, a, out),
-        "copy_crl" => put_list(alloc, a, out),
-        "copy_attribute" => put_attribute(alloc, a, out),
-        _ => Ok(false),
+        "copy_rdn" => copied::<RelativeDistinguishedName, Whole>(a, out),
+        "copy_name" => copied::<X509Name, Whole>(a, out),
+        "copy_general_name" => copied::<GeneralName, Whole>(a, out),
+        "copy_subject_alt_name" => copied::<SubjectAlternativeName, Whole>(a, out),
+        "copy_issuer_alt_name" => copied::<IssuerAlternativeName, Whole>(a, out),
+        "copy_name_constraints" => copied::<NameConstraints, Whole>(a, out),
+        "copy_extended_key_usage" => copied::<ExtendedKeyUsage, Whole>(a, out),
+        "copy_certificate_policies" => copied::<PolicyList, Whole>(a, out),
+        "copy_policy_mappings" => copied::<PolicyMappings, Whole>(a, out),
+        "copy_authority_key_identifier" => copied::<AuthorityKeyIdentifier, Whole>(a, out),
+        "copy_crl_distribution_points" => copied::<CRLDistributionPoints, Whole>(a, out),
+        "copy_issuing_distribution_point" => copied::<IssuingDistributionPoint, Whole>(a, out),
+        "copy_authority_info_access" => copied::<AuthorityInfoAccess, Whole>(a, out),
+        "copy_subject_info_access" => copied::<SubjectInfoAccess, Whole>(a, out),
+        "copy_point_name" => copied::<DistributionPointName, Whole>(a, out),
+        "copy_extension" => copied::<X509Extension, Whole>(a, out),
+        "copy_tbs" => copied::<TbsCertificate, Whole>(a, out),
+        "copy_certificate" => copied::<X509Certificate, Whole>(a, out),
+        "copy_tbs_cert_list" => copied::<TbsCertList, Whole>(a, out),
+        "copy_revoked_certificate" => copied::<RevokedCertificate, Whole>(a, out),
+        "copy_extension_request" => copied::<ExtensionRequest, Whole>(a, out),
+        "copy_crl" => copied::<CertificateRevocationList, SignedPart>(a, out),
+        "copy_attribute" => copied_attribute(a, out),
+        _ => return false,
     }
+    true
 }

@@ -1,14 +1,13 @@
 //! The readers of one element.
 
 use crate::outcome::put_outcome;
-use std::alloc::{AllocError, Global};
 use x509_parser::der::{
     BerError, Children, Err, Stop, Tries, read_any, read_any_loose, read_bits, read_bool,
     read_bool_loose, read_enumerated, read_explicit, read_header, read_header_loose, read_ia5,
     read_implicit, read_implicit_bits, read_integer, read_octets, read_oid, read_sequence,
     read_set, read_u32, read_unsigned, read_utf8,
 };
-use x509_probe_show::{Octets, Show, Text, put_hex};
+use x509_probe_show::{Answer, Octets, Show, Text};
 
 // Bytes that were read, to be shown.
 fn octets<'a>(
@@ -31,7 +30,7 @@ fn text<'a>(
 }
 
 // What stands in an element of a certain tag.
-fn tagged(alloc: Global, word: &str, i: &[u8], out: &mut String) -> Result<bool, AllocError> {
+fn tagged(word: &str, i: &[u8], out: &mut Answer) -> bool {
     let mut tries = Tries::new();
     let t = &mut tries;
     let read = match word {
@@ -46,167 +45,168 @@ fn tagged(alloc: Global, word: &str, i: &[u8], out: &mut String) -> Result<bool,
         "read_sequence" => octets(read_sequence(t, i)),
         "read_set" => octets(read_set(t, i)),
         "read_octets" => octets(read_octets(t, i)),
-        _ => return Ok(false),
+        _ => return false,
     };
-    put_outcome(alloc, out, i, &tries, read)?;
-    Ok(true)
+    put_outcome(out, i, &tries, read);
+    true
 }
 
 // Texts.
-fn texts(alloc: Global, word: &str, i: &[u8], out: &mut String) -> Result<bool, AllocError> {
+fn texts(word: &str, i: &[u8], out: &mut Answer) -> bool {
     let mut tries = Tries::new();
     let t = &mut tries;
     let read = match word {
         "read_utf8" => text(read_utf8(t, i)),
         "read_ia5" => text(read_ia5(t, i)),
-        _ => return Ok(false),
+        _ => return false,
     };
-    put_outcome(alloc, out, i, &tries, read)?;
-    Ok(true)
+    put_outcome(out, i, &tries, read);
+    true
 }
 
 // Numbers of 32 bits.
-fn numbers(alloc: Global, word: &str, i: &[u8], out: &mut String) -> Result<bool, AllocError> {
+fn numbers(word: &str, i: &[u8], out: &mut Answer) -> bool {
     let mut tries = Tries::new();
     let t = &mut tries;
     let read = match word {
         "read_u32" => read_u32(t, i),
         "read_enumerated" => read_enumerated(t, i),
-        _ => return Ok(false),
+        _ => return false,
     };
-    put_outcome(alloc, out, i, &tries, read)?;
-    Ok(true)
+    put_outcome(out, i, &tries, read);
+    true
 }
 
 // Truth values.
-fn truths(alloc: Global, word: &str, i: &[u8], out: &mut String) -> Result<bool, AllocError> {
+fn truths(word: &str, i: &[u8], out: &mut Answer) -> bool {
     let mut tries = Tries::new();
     let t = &mut tries;
     let read = match word {
         "read_bool" => read_bool(t, i),
         "read_bool_loose" => read_bool_loose(t, i),
-        _ => return Ok(false),
+        _ => return false,
     };
-    put_outcome(alloc, out, i, &tries, read)?;
-    Ok(true)
+    put_outcome(out, i, &tries, read);
+    true
 }
 
 // Headers and whole elements.
-fn elements(alloc: Global, word: &str, i: &[u8], out: &mut String) -> Result<bool, AllocError> {
+fn elements(word: &str, i: &[u8], out: &mut Answer) -> bool {
     let mut tries = Tries::new();
     let t = &mut tries;
     match word {
         "read_header" => {
             let read = read_header(t, i);
-            put_outcome(alloc, out, i, &tries, read)?;
+            put_outcome(out, i, &tries, read);
         }
         "read_header_loose" => {
             let read = read_header_loose(t, i);
-            put_outcome(alloc, out, i, &tries, read)?;
+            put_outcome(out, i, &tries, read);
         }
         "read_any" => {
             let read = read_any(t, i);
-            put_outcome(alloc, out, i, &tries, read)?;
+            put_outcome(out, i, &tries, read);
         }
         "read_any_loose" => {
             let read = read_any_loose(t, i);
-            put_outcome(alloc, out, i, &tries, read)?;
+            put_outcome(out, i, &tries, read);
         }
-        _ => return Ok(false),
+        _ => return false,
     }
-    Ok(true)
+    true
 }
 
 // Numbers of any size, bits and identifiers.
-fn others(alloc: Global, word: &str, i: &[u8], out: &mut String) -> Result<bool, AllocError> {
+fn others(word: &str, i: &[u8], out: &mut Answer) -> bool {
     let mut tries = Tries::new();
     let t = &mut tries;
     match word {
         "read_unsigned" => {
             let read = read_unsigned(t, i);
-            put_outcome(alloc, out, i, &tries, read)?;
+            put_outcome(out, i, &tries, read);
         }
         "read_integer" => {
             let read = read_integer(t, i);
-            put_outcome(alloc, out, i, &tries, read)?;
+            put_outcome(out, i, &tries, read);
         }
         "read_bits" => {
             let read = read_bits(t, i);
-            put_outcome(alloc, out, i, &tries, read)?;
+            put_outcome(out, i, &tries, read);
         }
         "read_implicit_bits1" => {
             let read = read_implicit_bits(t, 1, i);
-            put_outcome(alloc, out, i, &tries, read)?;
+            put_outcome(out, i, &tries, read);
         }
         "read_oid" => {
             let read = read_oid(t, i);
-            put_outcome(alloc, out, i, &tries, read)?;
+            put_outcome(out, i, &tries, read);
         }
-        _ => return Ok(false),
+        _ => return false,
     }
-    Ok(true)
+    true
 }
 
 // The elements of a window, what is left of it, and why no more were cut.
-fn put_children(alloc: Global, i: &[u8], out: &mut String) -> Result<(), AllocError> {
+fn put_children(i: &[u8], out: &mut Answer) {
     let mut tries = Tries::new();
     let children = Children::cut(&mut tries, i);
-    let (count, made) = (children.count(), tries.count());
-    write!(out, "{count}")?;
+    out.display(&children.count());
     for k in 0..14_usize {
         if let Some(child) = children.get(k) {
-            out.push_str("{")?;
-            child.header.show(alloc, out)?;
-            out.push_str(if child.strict { ";strict;" } else { ";loose;" })?;
-            put_hex(out, child.whole)?;
-            out.push_str(";")?;
-            put_hex(out, child.bytes)?;
-            out.push_str("}")?;
+            out.add("{");
+            child.header.show(out);
+            out.add(if child.strict { ";strict;" } else { ";loose;" });
+            out.hex(child.whole);
+            out.add(";");
+            out.hex(child.bytes);
+            out.add("}");
         }
     }
-    out.push_str("|")?;
-    put_hex(out, children.tail())?;
-    out.push_str("|")?;
+    out.add("|");
+    out.hex(children.tail());
+    out.add("|");
     match children.stop() {
-        Stop::Nothing => out.push_str("nothing")?,
-        Stop::Full => out.push_str("full")?,
+        Stop::Nothing => out.add("nothing"),
+        Stop::Full => out.add("full"),
         Stop::Short {
             header,
             strict,
             bytes,
         } => {
-            out.push_str(if strict {
+            out.add(if strict {
                 "short strict "
             } else {
                 "short loose "
-            })?;
-            header.show(alloc, out)?;
-            out.push_str(" ")?;
-            put_hex(out, bytes)?;
+            });
+            header.show(out);
+            out.add(" ");
+            out.hex(bytes);
         }
-        Stop::Bad(kind) => write!(out, "bad {kind:?}")?,
+        Stop::Bad(kind) => {
+            out.add("bad ");
+            out.debug(&kind);
+        }
     }
-    write!(out, "|{made}")
+    out.add("|");
+    out.display(&tries.count());
 }
 
 // The elements of a window.
-fn cut(alloc: Global, word: &str, i: &[u8], out: &mut String) -> Result<bool, AllocError> {
+fn cut(word: &str, i: &[u8], out: &mut Answer) -> bool {
     if word != "children" {
-        return Ok(false);
+        return false;
     }
-    put_children(alloc, i, out)?;
-    Ok(true)
+    put_children(i, out);
+    true
 }
 
 /// Adds the answer of a reader of one element; false where the word names none.
-pub fn answer(alloc: Global, word: &str, i: &[u8], out: &mut String) -> Result<bool, AllocError> {
-    Ok(
-        elements(alloc, word, i, out)?
-            || tagged(alloc, word, i, out)?
-            || texts(alloc, word, i, out)?
-            || numbers(alloc, word, i, out)?
-            || truths(alloc, word, i, out)?
-            || others(alloc, word, i, out)?
-            || cut(alloc, word, i, out)?,
-    )
+pub fn answer(word: &str, i: &[u8], out: &mut Answer) -> bool {
+    elements(word, i, out)
+        || tagged(word, i, out)
+        || texts(word, i, out)
+        || numbers(word, i, out)
+        || truths(word, i, out)
+        || others(word, i, out)
+        || cut(word, i, out)
 }

@@ -1,70 +1,88 @@
 //! What readers answer.
 
-use std::alloc::{AllocError, Global};
 use std::fmt;
 use x509_parser::der::{Err, ReadError, Tries};
-use x509_probe_show::{Show, put_refusal};
+use x509_probe_show::{Answer, Show};
+
+// How many headers were looked at.
+fn put_count(out: &mut Answer, tries: &Tries) {
+    out.add(" tries=");
+    out.display(&tries.count());
+}
+
+// A value: how many bytes stand behind it, how many headers were looked at, and its mark.
+fn put_value<T: Show>(
+    out: &mut Answer,
+    input: &[u8],
+    tries: &Tries,
+    rest: &[u8],
+    mark: &str,
+    value: &T,
+) {
+    out.add("ok rest=");
+    out.display(&rest.len());
+    if !input.ends_with(rest) {
+        out.add("!");
+    }
+    put_count(out, tries);
+    out.add(mark);
+    value.show(out);
+}
+
+// A refusal, and how many headers were looked at.
+fn put_refusal<E: fmt::Debug + ReadError>(out: &mut Answer, tries: &Tries, refusal: &Err<E>) {
+    out.refusal(refusal);
+    put_count(out, tries);
+}
 
 /// Adds an outcome and its count.
-pub fn put_outcome<T: Show + Drop, E: fmt::Debug + ReadError>(
-    alloc: Global,
-    out: &mut String,
+pub fn put_outcome<T: Show, E: fmt::Debug + ReadError>(
+    out: &mut Answer,
     input: &[u8],
     tries: &Tries,
     outcome: Result<(&[u8], T), Err<E>>,
-) -> Result<(), AllocError> {
-    let count = tries.count();
+) {
     match outcome {
-        Ok((rest, value)) => {
-            let length = rest.len();
-            write!(out, "ok rest={length}")?;
-            if !input.ends_with(rest) {
-                out.push_str("!")?;
-            }
-            write!(out, " tries={count} ")?;
-            value.show(alloc, out)
-        }
-        Err(refusal) => {
-            put_refusal(out, &refusal)?;
-            write!(out, " tries={count}")
-        }
+        Ok((rest, value)) => put_value(out, input, tries, rest, " ", &value),
+        Err(refusal) => put_refusal(out, tries, &refusal),
     }
 }
 
 /// Adds an outcome with its mark.
-pub fn put_marked<T: Show + Drop, E: fmt::Debug + ReadError>(
-    alloc: Global,
-    out: &mut String,
+pub fn put_marked<T: Show, E: fmt::Debug + ReadError>(
+    out: &mut Answer,
     input: &[u8],
     tries: &Tries,
     outcome: Result<(&[u8], T, bool), Err<E>>,
-) -> Result<(), AllocError> {
+) {
     match outcome {
         Ok((rest, value, plain)) => {
-            let (length, count) = (rest.len(), tries.count());
-            write!(out, "ok rest={length}")?;
-            if !input.ends_with(rest) {
-                out.push_str("!")?;
-            }
-            let mark = if plain { "plain" } else { "loose" };
-            write!(out, " tries={count} {mark} ")?;
-            value.show(alloc, out)
+            let mark = if plain { " plain " } else { " loose " };
+            put_value(out, input, tries, rest, mark, &value);
         }
-        Err(refusal) => {
-            let count = tries.count();
-            put_refusal(out, &refusal)?;
-            write!(out, " tries={count}")
-        }
+        Err(refusal) => put_refusal(out, tries, &refusal),
     }
 }
 
+/// Adds what a reader to the end of the input answers.
+pub fn put_whole<T: Show, E: fmt::Debug + ReadError>(
+    out: &mut Answer,
+    input: &[u8],
+    tries: &Tries,
+    outcome: Result<(T, bool), Err<E>>,
+) {
+    let outcome = match outcome {
+        Ok((value, plain)) => Ok((&input[input.len()..], value, plain)),
+        Err(refusal) => Err(refusal),
+    };
+    put_marked(out, input, tries, outcome);
+}
+
 /// Adds what a call that counts no headers answers.
-pub fn put_uncounted<T: Show + Drop, E: fmt::Debug + ReadError>(
-    alloc: Global,
-    out: &mut String,
+pub fn put_uncounted<T: Show, E: fmt::Debug + ReadError>(
+    out: &mut Answer,
     input: &[u8],
     outcome: Result<(&[u8], T), Err<E>>,
-) -> Result<bool, AllocError> {
-    put_outcome(alloc, out, input, &Tries::new(), outcome)?;
-    Ok(true)
+) {
+    put_outcome(out, input, &Tries::new(), outcome);
 }

@@ -1,20 +1,79 @@
 //! Elements, fields and names.
 
-use std::alloc::{AllocError, Global};
+use crate::answer::Answer;
 use std::fmt;
 use x509_parser::der::{
-    Any, BitString, Class, Err, Header, HexPairs, Integer, Oid, ReadError, Sequence, UnsignedBytes,
+    Any, BitString, Class, Err, FromDer, Header, Integer, Oid, ReadError, Sequence, UnsignedBytes,
 };
+use x509_parser::error::X509Error;
 use x509_parser::time::ASN1Time;
 use x509_parser::x509::{
     AlgorithmIdentifier, AttributeByOid, AttributeTypeAndValue, RelativeDistinguishedName,
     X509Name, X509Version,
 };
 
-/// What has such a text.
-pub trait Show {
+/// What has such a text. How a value is let go comes with it: it is proved here, once for each type, so who owns a value
+/// does so in a function over any `T: Show`.
+pub trait Show: Drop {
     /// Adds the text.
-    fn show(&self, alloc: Global, out: &mut String) -> Result<(), AllocError>;
+    fn show(&self, out: &mut Answer);
+}
+
+/// Adds a value that was made, or the name of the error.
+pub fn put_result<T: Show, E: fmt::Debug + ReadError>(out: &mut Answer, made: Result<T, E>) {
+    match made {
+        Ok(value) => value.show(out),
+        Err(kind) => out.error(&kind),
+    }
+}
+
+/// What is said of a value of another type.
+pub trait Look<T> {
+    /// Adds it.
+    fn look(&self, value: &T, out: &mut Answer);
+}
+
+/// Adds what a look at a value says that was read, or that it can't be read.
+pub fn look_at<T: Show, E: ReadError, L: Look<T>>(
+    out: &mut Answer,
+    look: &L,
+    read: Result<(&[u8], T), Err<E>>,
+) {
+    match read {
+        Ok((_, value)) => look.look(&value, out),
+        Err(refusal) => out.refused(&refusal),
+    }
+}
+
+/// The same of a value that is read at the front of the bytes.
+pub fn look_in<'a, T: FromDer<'a, X509Error> + Show, L: Look<T>>(
+    out: &mut Answer,
+    look: &L,
+    i: &'a [u8],
+) {
+    let read = T::from_der(out.alloc(), i);
+    look_at(out, look, read);
+}
+
+/// Two values that were read; none where one can't be read, which is added.
+pub fn both<T: Show, U: Show, E: ReadError>(
+    out: &mut Answer,
+    first: Result<(&[u8], T), Err<E>>,
+    second: Result<(&[u8], U), Err<E>>,
+) -> Option<(T, U)> {
+    match first {
+        Ok((_, first)) => match second {
+            Ok((_, second)) => Some((first, second)),
+            Err(refusal) => {
+                out.refused(&refusal);
+                None
+            }
+        },
+        Err(refusal) => {
+            out.refused(&refusal);
+            None
+        }
+    }
 }
 
 /// Bytes.
@@ -25,296 +84,218 @@ pub struct Octets<'a>(pub &'a [u8]);
 #[derive(Clone, Copy)]
 pub struct Text<'a>(pub &'a str);
 
-/// Adds bytes in hex.
-pub fn put_hex(out: &mut String, bytes: &[u8]) -> Result<(), AllocError> {
-    let separator = "";
-    write!(out, "{}", HexPairs { bytes, separator })
-}
-
-/// Adds the text of a value in hex.
-pub fn put_shown<T: fmt::Display>(
-    alloc: Global,
-    out: &mut String,
-    value: &T,
-) -> Result<(), AllocError> {
-    let text = format!(in alloc; "{value}")?;
-    put_hex(out, text.as_bytes())
-}
-
-/// Adds the debug text of a value in hex.
-pub fn put_debug<T: fmt::Debug>(
-    alloc: Global,
-    out: &mut String,
-    value: &T,
-) -> Result<(), AllocError> {
-    let text = format!(in alloc; "{value:?}")?;
-    put_hex(out, text.as_bytes())
-}
-
-/// Adds the name of an error. Want of memory is the program's own, and no answer.
-pub fn put_error<E: fmt::Debug + ReadError>(out: &mut String, kind: &E) -> Result<(), AllocError> {
-    if kind.is_out_of_memory() {
-        return Err(AllocError);
-    }
-    write!(out, "{kind:?}")
-}
-
-/// Adds that it is an error, and its name.
-pub fn put_named_error<E: fmt::Debug + ReadError>(
-    out: &mut String,
-    kind: &E,
-) -> Result<(), AllocError> {
-    if kind.is_out_of_memory() {
-        return Err(AllocError);
-    }
-    write!(out, "error {kind:?}")
-}
-
-/// Adds that a value that was asked for can't be read.
-pub fn put_refused<E: ReadError>(out: &mut String, refusal: &Err<E>) -> Result<(), AllocError> {
-    if refusal.is_out_of_memory() {
-        return Err(AllocError);
-    }
-    out.push_str("refused")
-}
-
-/// Adds a refusal and its word. Want of memory is the program's own, and no answer.
-pub fn put_refusal<E: fmt::Debug + ReadError>(
-    out: &mut String,
-    refusal: &Err<E>,
-) -> Result<(), AllocError> {
-    if refusal.is_out_of_memory() {
-        return Err(AllocError);
-    }
-    put_refusal_text(out, refusal)
-}
-
-/// Adds the text of a refusal and its word, whichever it is.
-pub fn put_refusal_text<E: fmt::Debug + ReadError>(
-    out: &mut String,
-    refusal: &Err<E>,
-) -> Result<(), AllocError> {
-    match refusal {
-        Err::Incomplete => out.push_str("incomplete")?,
-        Err::Error(kind) => write!(out, "error {kind:?}")?,
-        Err::Failure(kind) => write!(out, "failure {kind:?}")?,
-    }
-    let word = refusal.word();
-    write!(out, " ({word})")
-}
-
-/// Adds a truth.
-pub fn put_truth(out: &mut String, truth: bool) -> Result<(), AllocError> {
-    out.push_str(if truth { "true" } else { "false" })
-}
-
 impl Show for bool {
-    fn show(&self, _alloc: Global, out: &mut String) -> Result<(), AllocError> {
-        put_truth(out, *self)
+    fn show(&self, out: &mut Answer) {
+        out.truth(*self);
     }
 }
 
 impl Show for u32 {
-    fn show(&self, _alloc: Global, out: &mut String) -> Result<(), AllocError> {
-        let number = *self;
-        write!(out, "{number}")
+    fn show(&self, out: &mut Answer) {
+        out.display(self);
     }
 }
 
 impl Show for Octets<'_> {
-    fn show(&self, _alloc: Global, out: &mut String) -> Result<(), AllocError> {
-        put_hex(out, self.0)
+    fn show(&self, out: &mut Answer) {
+        out.hex(self.0);
     }
 }
 
 impl Show for Text<'_> {
-    fn show(&self, _alloc: Global, out: &mut String) -> Result<(), AllocError> {
-        put_hex(out, self.0.as_bytes())
+    fn show(&self, out: &mut Answer) {
+        out.hex(self.0.as_bytes());
     }
 }
 
 impl Show for Integer<'_> {
-    fn show(&self, _alloc: Global, out: &mut String) -> Result<(), AllocError> {
-        put_hex(out, self.as_bytes())
+    fn show(&self, out: &mut Answer) {
+        out.hex(self.as_bytes());
     }
 }
 
 impl Show for UnsignedBytes<'_> {
-    fn show(&self, _alloc: Global, out: &mut String) -> Result<(), AllocError> {
-        put_hex(out, self.as_bytes())
+    fn show(&self, out: &mut Answer) {
+        out.hex(self.as_bytes());
     }
 }
 
 impl Show for Header {
-    fn show(&self, _alloc: Global, out: &mut String) -> Result<(), AllocError> {
-        out.push_str(match self.class {
+    fn show(&self, out: &mut Answer) {
+        out.add(match self.class {
             Class::Universal => "universal",
             Class::Application => "application",
             Class::ContextSpecific => "context",
             Class::Private => "private",
-        })?;
-        out.push_str(if self.constructed { "/c/" } else { "/p/" })?;
+        });
+        out.add(if self.constructed { "/c/" } else { "/p/" });
         let (tag, length) = (self.tag.0, self.length);
-        write!(out, "{tag}/{length}")
+        out.display(&tag);
+        out.add("/");
+        out.display(&length);
     }
 }
 
 impl Show for Any<'_> {
-    fn show(&self, alloc: Global, out: &mut String) -> Result<(), AllocError> {
-        self.header().show(alloc, out)?;
-        out.push_str("/")?;
-        put_hex(out, self.as_bytes())
+    fn show(&self, out: &mut Answer) {
+        self.header().show(out);
+        out.add("/");
+        out.hex(self.as_bytes());
     }
 }
 
 impl Show for BitString<'_> {
-    fn show(&self, _alloc: Global, out: &mut String) -> Result<(), AllocError> {
-        let unused = self.unused_bits;
-        write!(out, "{unused}:")?;
-        put_hex(out, self.bytes)
+    fn show(&self, out: &mut Answer) {
+        out.display(&self.unused_bits);
+        out.add(":");
+        out.hex(self.bytes);
     }
 }
 
 impl Show for Oid<'_> {
-    fn show(&self, alloc: Global, out: &mut String) -> Result<(), AllocError> {
-        put_hex(out, self.as_bytes())?;
-        out.push_str(",")?;
-        put_shown(alloc, out, self)?;
-        out.push_str(",")?;
-        put_debug(alloc, out, self)
+    fn show(&self, out: &mut Answer) {
+        out.hex(self.as_bytes());
+        out.add(",");
+        out.display_hex(self);
+        out.add(",");
+        out.debug_hex(self);
     }
 }
 
 impl Show for X509Version {
-    fn show(&self, alloc: Global, out: &mut String) -> Result<(), AllocError> {
-        let number = self.0;
-        write!(out, "{number},")?;
-        put_shown(alloc, out, self)
+    fn show(&self, out: &mut Answer) {
+        out.display(&self.0);
+        out.add(",");
+        out.display_hex(self);
     }
 }
 
 impl Show for AlgorithmIdentifier<'_> {
-    fn show(&self, alloc: Global, out: &mut String) -> Result<(), AllocError> {
-        out.push_str("alg(")?;
-        put_hex(out, self.oid().as_bytes())?;
-        out.push_str(";")?;
-        match self.parameters() {
-            Some(any) => any.show(alloc, out)?,
-            None => out.push_str("-")?,
-        }
-        out.push_str(")")
+    fn show(&self, out: &mut Answer) {
+        out.add("alg(");
+        out.hex(self.oid().as_bytes());
+        out.add(";");
+        self.parameters().show(out);
+        out.add(")");
     }
 }
 
 /// Adds all members.
-pub fn put_all<T: Show>(alloc: Global, out: &mut String, members: &[T]) -> Result<(), AllocError> {
-    out.push_str("[")?;
+pub fn put_all<T: Show>(out: &mut Answer, members: &[T]) {
+    out.add("[");
     for member in members {
-        member.show(alloc, out)?;
+        member.show(out);
     }
-    out.push_str("]")
+    out.add("]");
 }
 
 impl<T: Show> Show for Sequence<T> {
-    fn show(&self, alloc: Global, out: &mut String) -> Result<(), AllocError> {
-        put_all(alloc, out, self.as_slice())
+    fn show(&self, out: &mut Answer) {
+        put_all(out, self.as_slice());
+    }
+}
+
+impl<T: Show> Show for &T {
+    fn show(&self, out: &mut Answer) {
+        (**self).show(out);
     }
 }
 
 impl<T: Show> Show for Option<T> {
-    fn show(&self, alloc: Global, out: &mut String) -> Result<(), AllocError> {
+    fn show(&self, out: &mut Answer) {
         match self {
-            Some(value) => value.show(alloc, out),
-            None => out.push_str("-"),
+            Some(value) => value.show(out),
+            None => out.add("-"),
         }
     }
 }
 
 impl Show for AttributeTypeAndValue<'_> {
-    fn show(&self, alloc: Global, out: &mut String) -> Result<(), AllocError> {
-        out.push_str("atv(")?;
-        put_hex(out, self.attr_type().as_bytes())?;
-        out.push_str(";")?;
-        self.attr_value().show(alloc, out)?;
-        out.push_str(";")?;
+    fn show(&self, out: &mut Answer) {
+        out.add("atv(");
+        out.hex(self.attr_type().as_bytes());
+        out.add(";");
+        self.attr_value().show(out);
+        out.add(";");
         match self.as_str() {
             Ok(text) => {
-                out.push_str("str ")?;
-                put_hex(out, text.as_bytes())?;
+                out.add("str ");
+                out.hex(text.as_bytes());
             }
-            Err(kind) => put_error(out, &kind)?,
+            Err(kind) => out.error(&kind),
         }
-        out.push_str(";")?;
-        put_hex(out, self.as_slice())?;
-        out.push_str(")")
+        out.add(";");
+        out.hex(self.as_slice());
+        out.add(")");
     }
 }
 
 impl Show for RelativeDistinguishedName<'_> {
-    fn show(&self, alloc: Global, out: &mut String) -> Result<(), AllocError> {
-        out.push_str("rdn[")?;
+    fn show(&self, out: &mut Answer) {
+        out.add("rdn[");
         for attribute in self.iter() {
-            attribute.show(alloc, out)?;
+            attribute.show(out);
         }
-        out.push_str("]")
+        out.add("]");
     }
 }
 
 impl Show for X509Name<'_> {
-    fn show(&self, alloc: Global, out: &mut String) -> Result<(), AllocError> {
-        out.push_str("name(")?;
+    fn show(&self, out: &mut Answer) {
+        out.add("name(");
         for relative in self.iter() {
-            relative.show(alloc, out)?;
+            relative.show(out);
         }
-        out.push_str(";")?;
-        put_hex(out, self.as_raw())?;
-        out.push_str(";")?;
-        put_shown(alloc, out, self)?;
-        out.push_str(";all")?;
+        out.add(";");
+        out.hex(self.as_raw());
+        out.add(";");
+        out.display_hex(self);
+        out.add(";all");
         for attribute in self.iter_attributes() {
-            out.push_str(",")?;
-            put_hex(out, attribute.as_slice())?;
+            out.add(",");
+            out.hex(attribute.as_slice());
         }
-        put_named(out, self)?;
-        out.push_str(")")
+        put_named(out, self);
+        out.add(")");
     }
 }
 
 /// Adds a word and the contents of the attributes of one type.
-fn put_by_type(
-    out: &mut String,
-    word: &str,
-    attributes: AttributeByOid<'_, '_>,
-) -> Result<(), AllocError> {
-    out.push_str(word)?;
+fn put_by_type(out: &mut Answer, word: &str, attributes: AttributeByOid<'_, '_>) {
+    out.add(word);
     for attribute in attributes {
-        out.push_str(",")?;
-        put_hex(out, attribute.as_slice())?;
+        out.add(",");
+        out.hex(attribute.as_slice());
     }
-    Ok(())
 }
 
 /// Adds the attributes of seven types.
-fn put_named(out: &mut String, name: &X509Name<'_>) -> Result<(), AllocError> {
-    put_by_type(out, ";cn", name.iter_common_name())?;
-    put_by_type(out, ";c", name.iter_country())?;
-    put_by_type(out, ";o", name.iter_organization())?;
-    put_by_type(out, ";ou", name.iter_organizational_unit())?;
-    put_by_type(out, ";st", name.iter_state_or_province())?;
-    put_by_type(out, ";l", name.iter_locality())?;
-    put_by_type(out, ";email", name.iter_email())
+fn put_named(out: &mut Answer, name: &X509Name<'_>) {
+    put_by_type(out, ";cn", name.iter_common_name());
+    put_by_type(out, ";c", name.iter_country());
+    put_by_type(out, ";o", name.iter_organization());
+    put_by_type(out, ";ou", name.iter_organizational_unit());
+    put_by_type(out, ";st", name.iter_state_or_province());
+    put_by_type(out, ";l", name.iter_locality());
+    put_by_type(out, ";email", name.iter_email());
 }
 
 impl Show for ASN1Time {
-    fn show(&self, alloc: Global, out: &mut String) -> Result<(), AllocError> {
+    fn show(&self, out: &mut Answer) {
         let (seconds, moment) = (self.timestamp(), self.to_datetime());
         let (offset, year) = (moment.offset_minutes(), moment.year());
-        write!(out, "time({seconds};")?;
-        put_shown(alloc, out, self)?;
-        out.push_str(";")?;
-        put_truth(out, self.is_utctime())?;
-        out.push_str(";")?;
-        put_truth(out, self.is_generalizedtime())?;
-        write!(out, ";{offset};{year})")
+        out.add("time(");
+        out.display(&seconds);
+        out.add(";");
+        out.display_hex(self);
+        out.add(";");
+        out.truth(self.is_utctime());
+        out.add(";");
+        out.truth(self.is_generalizedtime());
+        out.add(";");
+        out.display(&offset);
+        out.add(";");
+        out.display(&year);
+        out.add(")");
     }
 }

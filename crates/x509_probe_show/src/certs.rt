@@ -1,62 +1,59 @@
 //! Certificates.
 
-use crate::base::{Show, put_error, put_hex};
-use std::alloc::{AllocError, Global};
+use crate::answer::Answer;
+use crate::base::Show;
 use x509_parser::certificate::{TbsCertificate, UniqueIdentifier, Validity, X509Certificate};
 
 impl Show for Validity {
-    fn show(&self, alloc: Global, out: &mut String) -> Result<(), AllocError> {
-        self.not_before.show(alloc, out)?;
-        self.not_after.show(alloc, out)
+    fn show(&self, out: &mut Answer) {
+        self.not_before.show(out);
+        self.not_after.show(out);
     }
 }
 
 impl Show for UniqueIdentifier<'_> {
-    fn show(&self, alloc: Global, out: &mut String) -> Result<(), AllocError> {
-        self.0.show(alloc, out)
+    fn show(&self, out: &mut Answer) {
+        self.0.show(out);
     }
 }
 
 impl Show for TbsCertificate<'_> {
-    fn show(&self, alloc: Global, out: &mut String) -> Result<(), AllocError> {
-        out.push_str("tbs(")?;
-        self.version().show(alloc, out)?;
-        out.push_str(";")?;
-        put_hex(out, self.raw_serial())?;
-        out.push_str(";")?;
-        put_hex(out, self.serial.as_bytes())?;
-        out.push_str(";")?;
-        match self.raw_serial_as_string(alloc) {
-            Ok(text) => put_hex(out, text.as_bytes())?,
-            Err(kind) => put_error(out, &kind)?,
-        }
-        out.push_str(";")?;
-        self.signature.show(alloc, out)?;
-        self.issuer().show(alloc, out)?;
-        self.validity().show(alloc, out)?;
-        self.subject().show(alloc, out)?;
-        self.public_key().show(alloc, out)?;
-        self.issuer_uid.show(alloc, out)?;
-        out.push_str(";")?;
-        self.subject_uid.show(alloc, out)?;
-        out.push_str(";")?;
+    fn show(&self, out: &mut Answer) {
+        out.add("tbs(");
+        self.version().show(out);
+        out.add(";");
+        out.hex(self.raw_serial());
+        out.add(";");
+        out.hex(self.serial.as_bytes());
+        out.add(";");
+        out.made_hex(self.raw_serial_as_string(out.alloc()));
+        out.add(";");
+        self.signature.show(out);
+        self.issuer().show(out);
+        self.validity().show(out);
+        self.subject().show(out);
+        self.public_key().show(out);
+        self.issuer_uid.show(out);
+        out.add(";");
+        self.subject_uid.show(out);
+        out.add(";");
         for extension in self.iter_extensions() {
-            extension.show(alloc, out)?;
+            extension.show(out);
         }
-        out.push_str(";")?;
-        put_hex(out, self.as_ref())?;
-        out.push_str(")")
+        out.add(";");
+        out.hex(self.as_ref());
+        out.add(")");
     }
 }
 
 impl Show for X509Certificate<'_> {
-    fn show(&self, alloc: Global, out: &mut String) -> Result<(), AllocError> {
-        out.push_str("cert(")?;
-        self.tbs_certificate.show(alloc, out)?;
-        self.signature_algorithm.show(alloc, out)?;
-        self.signature_value.show(alloc, out)?;
-        out.push_str(";")?;
-        put_hex(out, self.as_raw())?;
-        out.push_str(")")
+    fn show(&self, out: &mut Answer) {
+        out.add("cert(");
+        self.tbs_certificate.show(out);
+        self.signature_algorithm.show(out);
+        self.signature_value.show(out);
+        out.add(";");
+        out.hex(self.as_raw());
+        out.add(")");
     }
 }

@@ -1,7 +1,7 @@
 //! Keys, parameters and kinds of signatures.
 
-use crate::base::{Show, put_error, put_hex};
-use std::alloc::{AllocError, Global};
+use crate::answer::Answer;
+use crate::base::Show;
 use x509_parser::error::X509Error;
 use x509_parser::public_key::{ECPoint, PublicKey, RSAPublicKey};
 use x509_parser::signature_algorithm::{
@@ -11,158 +11,149 @@ use x509_parser::signature_value::EcdsaSigValue;
 use x509_parser::x509::SubjectPublicKeyInfo;
 
 impl Show for SubjectPublicKeyInfo<'_> {
-    fn show(&self, alloc: Global, out: &mut String) -> Result<(), AllocError> {
-        out.push_str("spki(")?;
-        self.algorithm.show(alloc, out)?;
-        out.push_str(";")?;
-        self.subject_public_key.show(alloc, out)?;
-        out.push_str(";")?;
-        put_hex(out, self.raw)?;
-        out.push_str(")")
+    fn show(&self, out: &mut Answer) {
+        out.add("spki(");
+        self.algorithm.show(out);
+        out.add(";");
+        self.subject_public_key.show(out);
+        out.add(";");
+        out.hex(self.raw);
+        out.add(")");
     }
 }
 
 impl Show for RSAPublicKey<'_> {
-    fn show(&self, _alloc: Global, out: &mut String) -> Result<(), AllocError> {
-        out.push_str("rsa(")?;
-        put_hex(out, self.modulus)?;
-        out.push_str(";")?;
-        put_hex(out, self.exponent)?;
-        out.push_str(";")?;
+    fn show(&self, out: &mut Answer) {
+        out.add("rsa(");
+        out.hex(self.modulus);
+        out.add(";");
+        out.hex(self.exponent);
+        out.add(";");
         match self.try_exponent() {
-            Ok(number) => write!(out, "{number}")?,
-            Err(kind) => put_error(out, &kind)?,
+            Ok(number) => out.display(&number),
+            Err(kind) => out.error(&kind),
         }
-        let size = self.key_size();
-        write!(out, ";{size})")
+        out.add(";");
+        out.display(&self.key_size());
+        out.add(")");
     }
 }
 
 impl Show for ECPoint<'_> {
-    fn show(&self, _alloc: Global, out: &mut String) -> Result<(), AllocError> {
-        let size = self.key_size();
-        write!(out, "ec({size};")?;
-        put_hex(out, self.bytes())?;
-        out.push_str(")")
+    fn show(&self, out: &mut Answer) {
+        out.add("ec(");
+        out.display(&self.key_size());
+        out.add(";");
+        out.hex(self.bytes());
+        out.add(")");
     }
 }
 
 impl Show for PublicKey<'_> {
-    fn show(&self, alloc: Global, out: &mut String) -> Result<(), AllocError> {
-        let size = self.key_size();
-        write!(out, "{size},")?;
+    fn show(&self, out: &mut Answer) {
+        out.display(&self.key_size());
+        out.add(",");
         match self {
             PublicKey::RSA(key) => {
-                out.push_str("RSA,")?;
-                key.show(alloc, out)
+                out.add("RSA,");
+                key.show(out);
             }
             PublicKey::EC(point) => {
-                out.push_str("EC,")?;
-                point.show(alloc, out)
+                out.add("EC,");
+                point.show(out);
             }
             PublicKey::DSA(bytes) => {
-                out.push_str("DSA,")?;
-                put_hex(out, bytes)
+                out.add("DSA,");
+                out.hex(bytes);
             }
             PublicKey::GostR3410(bytes) => {
-                out.push_str("GostR3410,")?;
-                put_hex(out, bytes)
+                out.add("GostR3410,");
+                out.hex(bytes);
             }
             PublicKey::GostR3410_2012(bytes) => {
-                out.push_str("GostR3410_2012,")?;
-                put_hex(out, bytes)
+                out.add("GostR3410_2012,");
+                out.hex(bytes);
             }
             PublicKey::Unknown(bytes) => {
-                out.push_str("Unknown,")?;
-                put_hex(out, bytes)
+                out.add("Unknown,");
+                out.hex(bytes);
             }
         }
     }
 }
 
 impl Show for EcdsaSigValue<'_> {
-    fn show(&self, alloc: Global, out: &mut String) -> Result<(), AllocError> {
-        out.push_str("ecdsa(")?;
-        self.r.show(alloc, out)?;
-        out.push_str(";")?;
-        self.s.show(alloc, out)?;
-        out.push_str(")")
+    fn show(&self, out: &mut Answer) {
+        out.add("ecdsa(");
+        self.r.show(out);
+        out.add(";");
+        self.s.show(out);
+        out.add(")");
     }
 }
 
 // The two identifiers of a mask generator.
-fn put_mask(
-    out: &mut String,
-    mask: Result<MaskGenAlgorithm<'_, '_>, X509Error>,
-) -> Result<(), AllocError> {
+fn put_mask(out: &mut Answer, mask: Result<MaskGenAlgorithm<'_, '_>, X509Error>) {
     match mask {
         Ok(mask) => {
-            put_hex(out, mask.mgf.as_bytes())?;
-            out.push_str(",")?;
-            put_hex(out, mask.hash.as_bytes())
+            out.hex(mask.mgf.as_bytes());
+            out.add(",");
+            out.hex(mask.hash.as_bytes());
         }
-        Err(kind) => put_error(out, &kind),
+        Err(kind) => out.error(&kind),
     }
 }
 
 impl Show for RsaSsaPssParams<'_> {
-    fn show(&self, alloc: Global, out: &mut String) -> Result<(), AllocError> {
-        out.push_str("pss(")?;
-        match self.hash_algorithm() {
-            Some(algorithm) => algorithm.show(alloc, out)?,
-            None => out.push_str("-")?,
-        }
-        out.push_str(";")?;
-        put_hex(out, self.hash_algorithm_oid().as_bytes())?;
-        out.push_str(";")?;
-        match self.mask_gen_algorithm_raw() {
-            Some(algorithm) => algorithm.show(alloc, out)?,
-            None => out.push_str("-")?,
-        }
-        out.push_str(";")?;
-        put_mask(out, self.mask_gen_algorithm())?;
+    fn show(&self, out: &mut Answer) {
+        out.add("pss(");
+        self.hash_algorithm().show(out);
+        out.add(";");
+        out.hex(self.hash_algorithm_oid().as_bytes());
+        out.add(";");
+        self.mask_gen_algorithm_raw().show(out);
+        out.add(";");
+        put_mask(out, self.mask_gen_algorithm());
         let (salt, trailer) = (self.salt_length(), self.trailer_field());
-        write!(out, ";{salt};{trailer})")
+        out.add(";");
+        out.display(&salt);
+        out.add(";");
+        out.display(&trailer);
+        out.add(")");
     }
 }
 
 impl Show for RsaAesOaepParams<'_> {
-    fn show(&self, alloc: Global, out: &mut String) -> Result<(), AllocError> {
-        out.push_str("oaep(")?;
-        match self.hash_algorithm() {
-            Some(algorithm) => algorithm.show(alloc, out)?,
-            None => out.push_str("-")?,
-        }
-        out.push_str(";")?;
-        put_hex(out, self.hash_algorithm_oid().as_bytes())?;
-        out.push_str(";")?;
-        match self.mask_gen_algorithm_raw() {
-            Some(algorithm) => algorithm.show(alloc, out)?,
-            None => out.push_str("-")?,
-        }
-        out.push_str(";")?;
-        put_mask(out, self.mask_gen_algorithm())?;
-        out.push_str(";")?;
-        self.p_source_alg().show(alloc, out)?;
-        out.push_str(")")
+    fn show(&self, out: &mut Answer) {
+        out.add("oaep(");
+        self.hash_algorithm().show(out);
+        out.add(";");
+        out.hex(self.hash_algorithm_oid().as_bytes());
+        out.add(";");
+        self.mask_gen_algorithm_raw().show(out);
+        out.add(";");
+        put_mask(out, self.mask_gen_algorithm());
+        out.add(";");
+        self.p_source_alg().show(out);
+        out.add(")");
     }
 }
 
 impl Show for SignatureAlgorithm<'_> {
-    fn show(&self, alloc: Global, out: &mut String) -> Result<(), AllocError> {
+    fn show(&self, out: &mut Answer) {
         match self {
-            SignatureAlgorithm::RSA => out.push_str("RSA"),
+            SignatureAlgorithm::RSA => out.add("RSA"),
             SignatureAlgorithm::RSASSA_PSS(parameters) => {
-                out.push_str("RSASSA_PSS,")?;
-                parameters.show(alloc, out)
+                out.add("RSASSA_PSS,");
+                parameters.show(out);
             }
             SignatureAlgorithm::RSAAES_OAEP(parameters) => {
-                out.push_str("RSAAES_OAEP,")?;
-                parameters.show(alloc, out)
+                out.add("RSAAES_OAEP,");
+                parameters.show(out);
             }
-            SignatureAlgorithm::DSA => out.push_str("DSA"),
-            SignatureAlgorithm::ECDSA => out.push_str("ECDSA"),
-            SignatureAlgorithm::ED25519 => out.push_str("ED25519"),
+            SignatureAlgorithm::DSA => out.add("DSA"),
+            SignatureAlgorithm::ECDSA => out.add("ECDSA"),
+            SignatureAlgorithm::ED25519 => out.add("ED25519"),
         }
     }
 }

@@ -3,6 +3,7 @@
 //! What a value says is told by its fields and accessors alone, so an answer shows what a user sees.
 #![tactic(auto)]
 
+mod answer;
 mod base;
 mod certs;
 mod extensions;
@@ -12,8 +13,6 @@ mod names;
 mod requests;
 mod usages;
 
-pub use base::{
-    Octets, Show, Text, put_all, put_debug, put_error, put_hex, put_named_error, put_refusal,
-    put_refusal_text, put_refused, put_shown, put_truth,
-};
+pub use answer::Answer;
+pub use base::{Look, Octets, Show, Text, both, look_at, look_in, put_all, put_result};
 pub use usages::Hasher;

@@ -1,83 +1,84 @@
 //! Certification requests.
 
-use crate::base::{Show, put_hex};
-use std::alloc::{AllocError, Global};
+use crate::answer::Answer;
+use crate::base::Show;
 use x509_parser::certification_request::{X509CertificationRequest, X509CertificationRequestInfo};
 use x509_parser::cri_attributes::{ExtensionRequest, ParsedCriAttribute, X509CriAttribute};
 
 impl Show for ExtensionRequest<'_> {
-    fn show(&self, alloc: Global, out: &mut String) -> Result<(), AllocError> {
-        self.extensions.show(alloc, out)
+    fn show(&self, out: &mut Answer) {
+        self.extensions.show(out);
     }
 }
 
 impl Show for ParsedCriAttribute<'_> {
-    fn show(&self, alloc: Global, out: &mut String) -> Result<(), AllocError> {
+    fn show(&self, out: &mut Answer) {
         match self {
             ParsedCriAttribute::ChallengePassword(password) => {
-                out.push_str("ChallengePassword,")?;
-                put_hex(out, password.0.as_bytes())
+                out.add("ChallengePassword,");
+                out.hex(password.0.as_bytes());
             }
             ParsedCriAttribute::ExtensionRequest(request) => {
-                out.push_str("ExtensionRequest,")?;
-                request.show(alloc, out)
+                out.add("ExtensionRequest,");
+                request.show(out);
             }
-            ParsedCriAttribute::UnsupportedAttribute => out.push_str("UnsupportedAttribute"),
+            ParsedCriAttribute::UnsupportedAttribute => out.add("UnsupportedAttribute"),
         }
     }
 }
 
 impl Show for X509CriAttribute<'_> {
-    fn show(&self, alloc: Global, out: &mut String) -> Result<(), AllocError> {
-        out.push_str("attr(")?;
-        put_hex(out, self.oid.as_bytes())?;
-        out.push_str(";")?;
-        put_hex(out, self.value)?;
-        out.push_str(";")?;
-        self.parsed_attribute().show(alloc, out)?;
-        out.push_str(")")
+    fn show(&self, out: &mut Answer) {
+        out.add("attr(");
+        out.hex(self.oid.as_bytes());
+        out.add(";");
+        out.hex(self.value);
+        out.add(";");
+        self.parsed_attribute().show(out);
+        out.add(")");
     }
 }
 
 impl Show for X509CertificationRequestInfo<'_> {
-    fn show(&self, alloc: Global, out: &mut String) -> Result<(), AllocError> {
-        out.push_str("info(")?;
-        self.version.show(alloc, out)?;
-        out.push_str(";")?;
-        self.subject.show(alloc, out)?;
-        self.subject_pki.show(alloc, out)?;
+    fn show(&self, out: &mut Answer) {
+        out.add("info(");
+        self.version.show(out);
+        out.add(";");
+        self.subject.show(out);
+        self.subject_pki.show(out);
         for attribute in self.iter_attributes() {
-            attribute.show(alloc, out)?;
+            attribute.show(out);
         }
-        let count = self.attributes().len();
-        write!(out, ";{count};")?;
-        put_hex(out, self.raw)?;
-        out.push_str(")")
+        out.add(";");
+        out.display(&self.attributes().len());
+        out.add(";");
+        out.hex(self.raw);
+        out.add(")");
     }
 }
 
 impl Show for X509CertificationRequest<'_> {
-    fn show(&self, alloc: Global, out: &mut String) -> Result<(), AllocError> {
-        out.push_str("csr(")?;
-        self.certification_request_info.show(alloc, out)?;
-        self.signature_algorithm.show(alloc, out)?;
-        self.signature_value.show(alloc, out)?;
-        out.push_str(";")?;
-        put_hex(out, self.as_raw())?;
-        out.push_str(";")?;
+    fn show(&self, out: &mut Answer) {
+        out.add("csr(");
+        self.certification_request_info.show(out);
+        self.signature_algorithm.show(out);
+        self.signature_value.show(out);
+        out.add(";");
+        out.hex(self.as_raw());
+        out.add(";");
         if self.as_ref() != self.as_raw() {
-            out.push_str("OTHER")?;
+            out.add("OTHER");
         }
         match self.requested_extensions() {
             Some(requested) => {
                 for parsed in requested {
-                    out.push_str("{")?;
-                    parsed.show(alloc, out)?;
-                    out.push_str("}")?;
+                    out.add("{");
+                    parsed.show(out);
+                    out.add("}");
                 }
-                out.push_str(";)")
+                out.add(";)");
             }
-            None => out.push_str("-)"),
+            None => out.add("-)"),
         }
     }
 }

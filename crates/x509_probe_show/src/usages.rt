@@ -1,7 +1,7 @@
 //! Values of extensions that hold no general names.
 
-use crate::base::{Show, put_hex, put_shown, put_truth};
-use std::alloc::{AllocError, Global};
+use crate::answer::Answer;
+use crate::base::Show;
 use std::hash::{BuildHasherDefault, FoldHasher};
 use x509_parser::extensions::{
     BasicConstraints, ExtendedKeyUsage, InhibitAnyPolicy, KeyUsage, NSCertType, PolicyConstraints,
@@ -16,19 +16,19 @@ use x509_usages::{CRLNumber, InvalidityDate, PolicyList, ReasonCodeValue};
 pub type Hasher = BuildHasherDefault<FoldHasher>;
 
 /// Adds truths as digits.
-pub fn put_digits(out: &mut String, truths: &[bool]) -> Result<(), AllocError> {
+pub fn put_digits(out: &mut Answer, truths: &[bool]) {
     for truth in truths {
-        out.push_str(if *truth { "1" } else { "0" })?;
+        out.add(if *truth { "1" } else { "0" });
     }
-    Ok(())
 }
 
 impl Show for KeyUsage {
-    fn show(&self, alloc: Global, out: &mut String) -> Result<(), AllocError> {
-        let flags = self.flags;
-        write!(out, "ku({flags};")?;
-        put_shown(alloc, out, self)?;
-        out.push_str(";")?;
+    fn show(&self, out: &mut Answer) {
+        out.add("ku(");
+        out.display(&self.flags);
+        out.add(";");
+        out.display_hex(self);
+        out.add(";");
         put_digits(
             out,
             &[
@@ -42,17 +42,18 @@ impl Show for KeyUsage {
                 self.encipher_only(),
                 self.decipher_only(),
             ],
-        )?;
-        out.push_str(")")
+        );
+        out.add(")");
     }
 }
 
 impl Show for NSCertType {
-    fn show(&self, alloc: Global, out: &mut String) -> Result<(), AllocError> {
-        let flags = self.flags;
-        write!(out, "ns({flags};")?;
-        put_shown(alloc, out, self)?;
-        out.push_str(";")?;
+    fn show(&self, out: &mut Answer) {
+        out.add("ns(");
+        out.display(&self.flags);
+        out.add(";");
+        out.display_hex(self);
+        out.add(";");
         put_digits(
             out,
             &[
@@ -64,137 +65,135 @@ impl Show for NSCertType {
                 self.smime_ca(),
                 self.object_signing_ca(),
             ],
-        )?;
-        out.push_str(")")
+        );
+        out.add(")");
     }
 }
 
 impl Show for BasicConstraints {
-    fn show(&self, alloc: Global, out: &mut String) -> Result<(), AllocError> {
-        out.push_str("bc(")?;
-        put_truth(out, self.ca)?;
-        out.push_str(";")?;
-        self.path_len_constraint.show(alloc, out)?;
-        out.push_str(")")
+    fn show(&self, out: &mut Answer) {
+        out.add("bc(");
+        out.truth(self.ca);
+        out.add(";");
+        self.path_len_constraint.show(out);
+        out.add(")");
     }
 }
 
 impl Show for PolicyConstraints {
-    fn show(&self, alloc: Global, out: &mut String) -> Result<(), AllocError> {
-        out.push_str("pc(")?;
-        self.require_explicit_policy.show(alloc, out)?;
-        out.push_str(";")?;
-        self.inhibit_policy_mapping.show(alloc, out)?;
-        out.push_str(")")
+    fn show(&self, out: &mut Answer) {
+        out.add("pc(");
+        self.require_explicit_policy.show(out);
+        out.add(";");
+        self.inhibit_policy_mapping.show(out);
+        out.add(")");
     }
 }
 
 impl Show for InhibitAnyPolicy {
-    fn show(&self, _alloc: Global, out: &mut String) -> Result<(), AllocError> {
-        let skipped = self.skip_certs;
-        write!(out, "iap({skipped})")
+    fn show(&self, out: &mut Answer) {
+        out.add("iap(");
+        out.display(&self.skip_certs);
+        out.add(")");
     }
 }
 
 impl Show for CRLNumber<'_> {
-    fn show(&self, alloc: Global, out: &mut String) -> Result<(), AllocError> {
-        self.0.show(alloc, out)
+    fn show(&self, out: &mut Answer) {
+        self.0.show(out);
     }
 }
 
 impl Show for ReasonCode {
-    fn show(&self, alloc: Global, out: &mut String) -> Result<(), AllocError> {
-        let number = self.0;
-        write!(out, "reason({number};")?;
-        put_shown(alloc, out, self)?;
-        out.push_str(")")
+    fn show(&self, out: &mut Answer) {
+        out.add("reason(");
+        out.display(&self.0);
+        out.add(";");
+        out.display_hex(self);
+        out.add(")");
     }
 }
 
 impl Show for ReasonCodeValue {
-    fn show(&self, alloc: Global, out: &mut String) -> Result<(), AllocError> {
-        self.0.show(alloc, out)
+    fn show(&self, out: &mut Answer) {
+        self.0.show(out);
     }
 }
 
 impl Show for InvalidityDate {
-    fn show(&self, alloc: Global, out: &mut String) -> Result<(), AllocError> {
-        self.0.show(alloc, out)
+    fn show(&self, out: &mut Answer) {
+        self.0.show(out);
     }
 }
 
 impl Show for PolicyMapping<'_> {
-    fn show(&self, _alloc: Global, out: &mut String) -> Result<(), AllocError> {
-        out.push_str("pm(")?;
-        put_hex(out, self.issuer_domain_policy.as_bytes())?;
-        out.push_str(";")?;
-        put_hex(out, self.subject_domain_policy.as_bytes())?;
-        out.push_str(")")
+    fn show(&self, out: &mut Answer) {
+        out.add("pm(");
+        out.hex(self.issuer_domain_policy.as_bytes());
+        out.add(";");
+        out.hex(self.subject_domain_policy.as_bytes());
+        out.add(")");
     }
 }
 
 // For each mapping, all that its issuer's policy is mapped to.
-fn put_groups(
-    alloc: Global,
-    out: &mut String,
-    list: &PolicyMappings<'_>,
-) -> Result<(), AllocError> {
-    let Ok(map) = list.as_hashmap(alloc, Hasher::new()) else {
-        return Err(AllocError);
-    };
-    let count = map.len();
-    write!(out, "{count}")?;
-    for mapping in list.mappings.as_slice() {
-        out.push_str("{")?;
-        if let Some(group) = map.get(&mapping.issuer_domain_policy) {
-            for policy in group {
-                out.push_str(",")?;
-                put_hex(out, policy.as_bytes())?;
+fn put_groups(out: &mut Answer, list: &PolicyMappings<'_>) {
+    match list.as_hashmap(out.alloc(), Hasher::new()) {
+        Ok(map) => {
+            out.display(&map.len());
+            for mapping in list.mappings.as_slice() {
+                out.add("{");
+                if let Some(group) = map.get(&mapping.issuer_domain_policy) {
+                    for policy in group {
+                        out.add(",");
+                        out.hex(policy.as_bytes());
+                    }
+                }
+                out.add("}");
             }
         }
-        out.push_str("}")?;
+        Err(kind) => out.error(&kind),
     }
-    Ok(())
 }
 
 impl Show for PolicyMappings<'_> {
-    fn show(&self, alloc: Global, out: &mut String) -> Result<(), AllocError> {
-        out.push_str("pms(")?;
-        self.mappings.show(alloc, out)?;
-        put_groups(alloc, out, self)?;
-        out.push_str(")")
+    fn show(&self, out: &mut Answer) {
+        out.add("pms(");
+        self.mappings.show(out);
+        put_groups(out, self);
+        out.add(")");
     }
 }
 
 impl Show for PolicyQualifierInfo<'_> {
-    fn show(&self, _alloc: Global, out: &mut String) -> Result<(), AllocError> {
-        out.push_str("q(")?;
-        put_hex(out, self.policy_qualifier_id.as_bytes())?;
-        out.push_str(";")?;
-        put_hex(out, self.qualifier)?;
-        out.push_str(")")
+    fn show(&self, out: &mut Answer) {
+        out.add("q(");
+        out.hex(self.policy_qualifier_id.as_bytes());
+        out.add(";");
+        out.hex(self.qualifier);
+        out.add(")");
     }
 }
 
 impl Show for PolicyInformation<'_> {
-    fn show(&self, alloc: Global, out: &mut String) -> Result<(), AllocError> {
-        out.push_str("pi(")?;
-        put_hex(out, self.policy_id.as_bytes())?;
-        out.push_str(";")?;
-        self.policy_qualifiers.show(alloc, out)?;
-        out.push_str(")")
+    fn show(&self, out: &mut Answer) {
+        out.add("pi(");
+        out.hex(self.policy_id.as_bytes());
+        out.add(";");
+        self.policy_qualifiers.show(out);
+        out.add(")");
     }
 }
 
 impl Show for PolicyList<'_> {
-    fn show(&self, alloc: Global, out: &mut String) -> Result<(), AllocError> {
-        self.policies.show(alloc, out)
+    fn show(&self, out: &mut Answer) {
+        self.policies.show(out);
     }
 }
 
 impl Show for ExtendedKeyUsage<'_> {
-    fn show(&self, _alloc: Global, out: &mut String) -> Result<(), AllocError> {
-        out.push_str("eku(")?;
+    fn show(&self, out: &mut Answer) {
+        out.add("eku(");
         put_digits(
             out,
             &[
@@ -206,33 +205,39 @@ impl Show for ExtendedKeyUsage<'_> {
                 self.time_stamping,
                 self.ocsp_signing,
             ],
-        )?;
+        );
         for other in self.other.as_slice() {
-            out.push_str(",")?;
-            put_hex(out, other.as_bytes())?;
+            out.add(",");
+            out.hex(other.as_bytes());
         }
-        out.push_str(")")
+        out.add(")");
     }
 }
 
 impl Show for SignedCertificateTimestamp<'_> {
-    fn show(&self, _alloc: Global, out: &mut String) -> Result<(), AllocError> {
-        let version = self.version.0;
-        write!(out, "sct({version};")?;
+    fn show(&self, out: &mut Answer) {
+        out.add("sct(");
+        out.display(&self.version.0);
+        out.add(";");
         let log = self.id.key_id;
-        put_hex(out, log)?;
-        let time = self.timestamp;
-        write!(out, ";{time};")?;
-        put_hex(out, self.extensions.0)?;
+        out.hex(log);
+        out.add(";");
+        out.display(&self.timestamp);
+        out.add(";");
+        out.hex(self.extensions.0);
         let (hash, sign) = (self.signature.hash_alg_id, self.signature.sign_alg_id);
-        write!(out, ";{hash};{sign};")?;
-        put_hex(out, self.signature.bytes)?;
-        out.push_str(")")
+        out.add(";");
+        out.display(&hash);
+        out.add(";");
+        out.display(&sign);
+        out.add(";");
+        out.hex(self.signature.bytes);
+        out.add(")");
     }
 }
 
 impl Show for TimestampList<'_> {
-    fn show(&self, alloc: Global, out: &mut String) -> Result<(), AllocError> {
-        self.timestamps.show(alloc, out)
+    fn show(&self, out: &mut Answer) {
+        self.timestamps.show(out);
     }
 }

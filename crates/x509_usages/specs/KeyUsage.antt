@@ -44,6 +44,20 @@ key_usage_names =
     codes "Decipher Only" ∷
     []
 
+-- the standard's names of the bits
+abbrev pub key_usage_words : List (List ℕ)
+key_usage_words =
+    codes "digital_signature" ∷
+    codes "non_repudiation" ∷
+    codes "key_encipherment" ∷
+    codes "data_encipherment" ∷
+    codes "key_agreement" ∷
+    codes "key_cert_sign" ∷
+    codes "crl_sign" ∷
+    codes "encipher_only" ∷
+    codes "decipher_only" ∷
+    []
+
 -- ---- laws
 
 pub key_usage_laws : IsMarkedElement is_x509_memory key_usage

@@ -54,6 +54,19 @@ ns_cert_type_names =
     codes "Object Signing CA" ∷
     []
 
+-- the specification's names of the bits
+abbrev pub ns_cert_type_words : List (List ℕ)
+ns_cert_type_words =
+    codes "ssl_client" ∷
+    codes "ssl_server" ∷
+    codes "smime" ∷
+    codes "object_signing" ∷
+    codes "reserved" ∷
+    codes "ssl_ca" ∷
+    codes "smime_ca" ∷
+    codes "object_signing_ca" ∷
+    []
+
 -- ---- laws
 
 pub octet_of_bits_laws : IsMarkedElement is_ber_memory octet_of_bits

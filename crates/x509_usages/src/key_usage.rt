@@ -4,14 +4,15 @@ ghost use Rattle.std.specs.Prelude.{◌≡◌, ℕ, Some, false};
 ghost use Rattle.x509_der.specs.Primitives.{is_primitive};
 ghost use Rattle.x509_der.specs.Reading.{strict};
 ghost use Rattle.x509_parts.specs.Flags.{has_bit};
-ghost use Rattle.x509_parts.specs.Texts.{flags_text};
-ghost use Rattle.x509_usages.specs.KeyUsage.{key_usage_of, key_usage, key_usage_names, key_usage_laws};
+ghost use Rattle.x509_parts.specs.BitNames.{names_left};
+ghost use Rattle.x509_parts.specs.Texts.{flags_text, set_names};
+ghost use Rattle.x509_usages.specs.KeyUsage.{key_usage_of, key_usage, key_usage_names, key_usage_words, key_usage_laws};
 
 use std::alloc::Global;
 use std::fmt;
 use x509_der::{Err, FromDer, Place, Tries};
 use x509_fields::X509Error;
-use x509_parts::{FlagNames, flags_of, is_set};
+use x509_parts::{BitNames, FlagNames, flags_of, is_set};
 
 /// What a key may be used for (RFC 5280, section 4.2.1.3).
 ///
@@ -47,7 +48,26 @@ const NAMES: [&str; 9] = [
     "Decipher Only",
 ];
 
+const WORDS: &[&str] = &[
+    "digital_signature",
+    "non_repudiation",
+    "key_encipherment",
+    "data_encipherment",
+    "key_agreement",
+    "key_cert_sign",
+    "crl_sign",
+    "encipher_only",
+    "decipher_only",
+];
+
 impl KeyUsage {
+    /// The standard's names of the uses whose bits are set, as `digital_signature`, in the standard's order.
+    pub fn names(&self) -> BitNames
+        ensures { names_left result ≡ set_names key_usage_words self.now.flags }
+    {
+        BitNames::new(WORDS, self.flags)
+    }
+
     /// Whether signatures other than those of certificates and lists may be verified.
     pub fn digital_signature(&self) -> bool
         ensures { result ≡ has_bit self.now.flags 0 }

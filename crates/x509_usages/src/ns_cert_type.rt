@@ -4,14 +4,15 @@ ghost use Rattle.std.specs.Prelude.{◌≡◌, ℕ, Some, false};
 ghost use Rattle.x509_der.specs.Primitives.{is_primitive};
 ghost use Rattle.x509_der.specs.Reading.{strict};
 ghost use Rattle.x509_parts.specs.Flags.{has_bit, reversed};
-ghost use Rattle.x509_parts.specs.Texts.{flags_text};
-ghost use Rattle.x509_usages.specs.NsCertType.{ns_cert_type_of, octet_flags, ns_cert_type, ns_cert_type_names, ns_cert_type_laws};
+ghost use Rattle.x509_parts.specs.BitNames.{names_left};
+ghost use Rattle.x509_parts.specs.Texts.{flags_text, set_names};
+ghost use Rattle.x509_usages.specs.NsCertType.{ns_cert_type_of, octet_flags, ns_cert_type, ns_cert_type_names, ns_cert_type_words, ns_cert_type_laws};
 
 use std::alloc::Global;
 use std::fmt;
 use x509_der::{BerError, Err, FromDer, Place, Tries};
 use x509_fields::X509Error;
-use x509_parts::{FlagNames, is_set};
+use x509_parts::{BitNames, FlagNames, is_set};
 
 /// What a certificate may be used for (Netscape certificate extensions, netscape-cert-type).
 ///
@@ -46,7 +47,25 @@ const NAMES: [&str; 8] = [
     "Object Signing CA",
 ];
 
+const WORDS: &[&str] = &[
+    "ssl_client",
+    "ssl_server",
+    "smime",
+    "object_signing",
+    "reserved",
+    "ssl_ca",
+    "smime_ca",
+    "object_signing_ca",
+];
+
 impl NSCertType {
+    /// The names of the uses whose bits are set, as `ssl_client`, from bit 0 on.
+    pub fn names(&self) -> BitNames
+        ensures { names_left result ≡ set_names ns_cert_type_words self.now.flags }
+    {
+        BitNames::new(WORDS, u16::from(self.flags))
+    }
+
     /// Whether a client may prove by it who it is.
     pub fn ssl_client(&self) -> bool
         ensures { result ≡ has_bit self.now.flags 0 }

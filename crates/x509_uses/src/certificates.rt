@@ -11,10 +11,10 @@ pub fn hosts<'a>(
     alloc: Global,
     certificate: &X509Certificate<'a>,
 ) -> Result<Vec<&'a str>, X509Error> {
-    let mut hosts = Vec::new(alloc);
     let Some(names) = certificate.subject_alternative_name()? else {
-        return Ok(hosts);
+        return Ok(Vec::new(alloc));
     };
+    let mut hosts = Vec::new(alloc);
     for name in names.value.general_names.as_slice() {
         if let GeneralName::DNSName(host) = name {
             hosts.push(*host).map_err(AllocError::from)?;

@@ -1,13 +1,12 @@
 //! Certificates that look for their own faults.
 
-ghost use Rattle.std.specs.Prelude.{◌≡◌, IfOk, IfErr, map};
+ghost use Rattle.std.specs.Prelude.{◌≡◌, IfOk, map};
 ghost use Rattle.std.specs.String.{string_bytes};
-ghost use Rattle.x509_fields.specs.declared.error.X509Error.TheVariants.{OutOfMemory};
 ghost use Rattle.x509_loggers.specs.CallbackLogger.{calls};
 ghost use Rattle.x509_loggers.specs.Message.{Logs, warnings_of, errors_of};
 
 use crate::structure::{TbsCertificateStructureValidator, X509StructureValidator};
-use std::alloc::Global;
+use std::alloc::{AllocError, Global};
 use x509_certs::{TbsCertificate, X509Certificate};
 use x509_fields::X509Error;
 use x509_loggers::{validate_by, validate_to_vec};
@@ -42,14 +41,13 @@ pub trait Validate {
     ///
     /// # Errors
     ///
-    /// `OutOfMemory`.
-    fn validate_to_vec(&self, alloc: Global) -> Result<(bool, Vec<String>, Vec<String>), X509Error>
+    /// Want of memory alone.
+    fn validate_to_vec(&self, alloc: Global) -> Result<(bool, Vec<String>, Vec<String>), AllocError>
         ensures answer { IfOk result (λ r. r.0 ≡ answer self.now) }
         ensures warnings { IfOk result
             (λ r. map string_bytes r.1.items ≡ warnings_of (messages self.now)) }
         ensures errors { IfOk result
-            (λ r. map string_bytes r.2.items ≡ errors_of (messages self.now)) }
-        ensures refused { IfErr result (λ e. e ≡ OutOfMemory) };
+            (λ r. map string_bytes r.2.items ≡ errors_of (messages self.now)) };
 }
 
 /// By [`X509StructureValidator`].
@@ -72,7 +70,7 @@ impl Validate for X509Certificate<'_> {
     fn validate_to_vec(
         &self,
         alloc: Global,
-    ) -> Result<(bool, Vec<String>, Vec<String>), X509Error> {
+    ) -> Result<(bool, Vec<String>, Vec<String>), AllocError> {
         validate_to_vec(alloc, &X509StructureValidator, self)
     }
 }
@@ -97,7 +95,7 @@ impl Validate for TbsCertificate<'_> {
     fn validate_to_vec(
         &self,
         alloc: Global,
-    ) -> Result<(bool, Vec<String>, Vec<String>), X509Error> {
+    ) -> Result<(bool, Vec<String>, Vec<String>), AllocError> {
         validate_to_vec(alloc, &TbsCertificateStructureValidator, self)
     }
 }

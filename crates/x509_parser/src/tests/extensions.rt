@@ -1,6 +1,6 @@
 //! Extensions and look-ups by identifier.
 
-use super::fixtures::{EXTENDED_BYTES, sequence, whole};
+use super::fixtures::{EXTENDED_BYTES, repeated, sequence, shows, whole};
 use crate::prelude::*;
 use std::alloc::Global;
 use std::test::Fail;
@@ -11,13 +11,13 @@ use x509_extensions::get_extension_unique;
 fn depths(rt: HostRuntime) -> Result<(), Fail> {
     let certificate: &[u8] = EXTENDED_BYTES;
     let bytes = &certificate[67..98];
-    let deep = whole(X509Extension::from_der(rt.alloc(), bytes))?;
+    let deep = whole(rt.alloc(), X509Extension::from_der(rt.alloc(), bytes))?;
     assert!(rt; !deep.critical);
     assert!(rt;
         matches!(deep.parsed_extension(), ParsedExtension::SubjectKeyIdentifier(id) if id.0 == &bytes[11..])
     );
     let shallow = X509ExtensionParser::new().with_deep_parse_extensions(false);
-    let (_, envelope) = shallow.parse(rt.alloc(), bytes)?;
+    let envelope = whole(rt.alloc(), shallow.parse(rt.alloc(), bytes))?;
     assert!(rt; matches!(envelope.parsed_extension(), ParsedExtension::Unparsed));
     Ok(())
 }
@@ -50,29 +50,29 @@ const VALUES: [(&[u8], &[u8], &str); 10] = [
     (COMMENT, b"\x04\x02\x80\xFF", "Error(InvalidLength)"),
 ];
 
-// What an extension's value is, in a text.
-fn text_of(alloc: Global, value: &ParsedExtension<'_>) -> Result<String, Fail> {
-    Ok(match value {
-        ParsedExtension::ParseError { error } => format!(in alloc; "{error:?}")?,
-        ParsedExtension::ReasonCode(code) => format!(in alloc; "{code}")?,
-        ParsedExtension::InvalidityDate(time) => format!(in alloc; "{}", time.timestamp())?,
-        ParsedExtension::CRLNumber(number) if number.is_u32(3) => String::from_str(alloc, "3")?,
-        ParsedExtension::NsCertComment(text) => String::from_str(alloc, text)?,
+// Whether an extension's value is this, in a text.
+fn is_value(alloc: Global, value: &ParsedExtension<'_>, text: &str) -> Result<bool, Fail> {
+    match value {
+        ParsedExtension::ParseError { error } => shows(alloc, &format_args!("{error:?}"), text),
+        ParsedExtension::ReasonCode(code) => shows(alloc, code, text),
+        ParsedExtension::InvalidityDate(time) => shows(alloc, &time.timestamp(), text),
+        ParsedExtension::CRLNumber(number) => Ok(number.is_u32(3) && text == "3"),
+        ParsedExtension::NsCertComment(comment) => Ok(*comment == text),
         ParsedExtension::SubjectAlternativeName(names) => match names.general_names.as_slice() {
-            [name] => format!(in alloc; "{name}")?,
-            _ => String::from_str(alloc, "not one name")?,
+            [name] => shows(alloc, name, text),
+            _ => Ok(false),
         },
-        _ => String::from_str(alloc, "another")?,
-    })
+        _ => Ok(false),
+    }
 }
 
 #[test]
 fn values(rt: HostRuntime) -> Result<(), Fail> {
     for (id, value, wanted) in VALUES {
         let bytes = sequence(rt.alloc(), &[id, value])?;
-        let extension = whole(X509Extension::from_der(rt.alloc(), bytes.as_slice()))?;
-        let text = text_of(rt.alloc(), extension.parsed_extension())?;
-        assert_eq!(rt; text.as_str(), wanted);
+        let extension = whole(rt.alloc(), X509Extension::from_der(rt.alloc(), bytes))?;
+        let same = is_value(rt.alloc(), extension.parsed_extension(), wanted)?;
+        assert!(rt; same, "at {wanted}");
     }
     Ok(())
 }
@@ -82,7 +82,8 @@ fn values(rt: HostRuntime) -> Result<(), Fail> {
 fn issuing_distribution_point(rt: HostRuntime) -> Result<(), Fail> {
     let bytes = b"\x30\x0A\x06\x03\x55\x1D\x1C\x04\x03\x30\x01\x05";
     let mut tries = Tries::new();
-    let extension = whole(X509Extension::read(rt.alloc(), &mut tries, bytes))?;
+    let read = X509Extension::read(rt.alloc(), &mut tries, bytes);
+    let extension = whole(rt.alloc(), read)?;
     assert!(rt; tries.count() >= 4 && tries.count() <= 8);
     let ParsedExtension::IssuingDistributionPoint(point) = extension.parsed_extension() else {
         return Err(Fail::from("another value"));
@@ -98,12 +99,8 @@ fn issuing_distribution_point(rt: HostRuntime) -> Result<(), Fail> {
 }
 
 #[test]
-fn unique_look_ups(rt: HostRuntime) -> Result<(), Fail> {
-    let mut extensions = Vec::new(rt.alloc());
-    for octets in [b"\x2A".as_slice(), b"\x2B", b"\x2A", b"\x2C", b"\x2C"] {
-        let one = X509Extension::new(Oid::new(octets), true, &[], ParsedExtension::Unparsed);
-        extensions.push(one)?;
-    }
+fn look_ups(rt: HostRuntime) -> Result<(), Fail> {
+    let extensions = repeated(rt.alloc())?.extensions();
     let twice = Err(X509Error::DuplicateExtensions);
     for (octets, found) in [
         (b"\x2B", Ok(true)),
@@ -111,15 +108,11 @@ fn unique_look_ups(rt: HostRuntime) -> Result<(), Fail> {
         (b"\x2A", twice),
         (b"\x2C", twice),
     ] {
-        let looked_up = get_extension_unique(extensions.as_slice(), &Oid::new(octets));
+        let looked_up = get_extension_unique(extensions, &Oid::new(octets));
         assert_eq!(rt; looked_up.map(|e| e.is_some()), found);
     }
-    Ok(())
-}
-
-#[test]
-fn typed_look_ups(rt: HostRuntime) -> Result<(), Fail> {
-    let (_, certificate) = parse_x509_certificate(rt.alloc(), EXTENDED_BYTES)?;
+    let read = parse_x509_certificate(rt.alloc(), EXTENDED_BYTES);
+    let certificate = whole(rt.alloc(), read)?;
     assert!(rt; matches!(certificate.basic_constraints(), Ok(None)));
     assert!(rt; matches!(certificate.key_usage(), Ok(None)));
     let oid = Oid::new(OID_X509_EXT_SUBJECT_KEY_IDENTIFIER);

@@ -1,7 +1,10 @@
 //! Certificates in bytes, and places in them.
 
+use crate::prelude::*;
 use std::alloc::Global;
+use std::fmt::{Debug, Display};
 use std::test::Fail;
+use x509_der::Err;
 
 /// A certificate that is empty wherever it may be: 66 bytes.
 pub const PLAIN_BYTES: &[u8; 66] =
@@ -28,14 +31,19 @@ pub const BITS: Place = (63, 66);
 pub const EXTENSIONS: Place = (63, 98);
 
 /// A certificate with other bytes at a place, and with the lengths of its two containers kept right.
-pub fn replaced(alloc: Global, whole: &[u8], place: Place, bytes: &[u8]) -> Result<Vec<u8>, Fail> {
+pub fn replaced(
+    alloc: Global,
+    whole: &[u8],
+    place: Place,
+    bytes: &[u8],
+) -> Result<&'static [u8], Fail> {
     let (from, to) = place;
     let (Some(front), Some(behind)) = (whole.get(..from), whole.get(to..)) else {
         return Err(Fail::from("no such place"));
     };
-    let mut all = joined(alloc, &[front, bytes, behind])?;
+    let all = joined(alloc, &[front, bytes, behind])?;
     let length = u8::try_from(all.len())?;
-    let [_, outer, _, inner, ..] = all.as_mut_slice() else {
+    let [_, outer, _, inner, ..] = &mut *all else {
         return Err(Fail::from("too short"));
     };
     *outer = length.wrapping_sub(2);
@@ -43,30 +51,61 @@ pub fn replaced(alloc: Global, whole: &[u8], place: Place, bytes: &[u8]) -> Resu
         // an algorithm of five bytes and a signature of three stand behind the signed part
         *inner = length.wrapping_sub(12);
     }
-    Ok(all)
+    Ok(&*all)
 }
 
 /// The bytes of all, one behind the other.
-pub fn joined(alloc: Global, parts: &[&[u8]]) -> Result<Vec<u8>, Fail> {
+pub fn joined(alloc: Global, parts: &[&[u8]]) -> Result<&'static mut [u8], Fail> {
     let mut bytes = Vec::new(alloc);
     for part in parts {
         bytes.extend_from_slice(*part)?;
     }
-    Ok(bytes)
+    Ok(bytes.leak())
 }
 
 /// A SEQUENCE of these contents.
-pub fn sequence(alloc: Global, parts: &[&[u8]]) -> Result<Vec<u8>, Fail> {
+pub fn sequence(alloc: Global, parts: &[&[u8]]) -> Result<&'static [u8], Fail> {
     let contents = joined(alloc, parts)?;
     let length = u8::try_from(contents.len())?;
-    joined(alloc, &[&[0x30, length], contents.as_slice()])
+    Ok(&*joined(alloc, &[&[0x30, length], &*contents])?)
+}
+
+/// The value, which is never let go, so that a test owns nothing: whatever it owns at an assertion has to be proved to be
+/// dropped there.
+pub fn kept<'e, T: Drop + 'e>(alloc: Global, value: T) -> Result<&'e T, Fail> {
+    Ok(Box::leak(Box::new(alloc, value)?))
 }
 
 /// What was read, with nothing behind it.
-pub fn whole<T: Drop, E: Drop>(read: Result<(&[u8], T), E>) -> Result<T, Fail> {
+pub fn whole<'e, T: Drop + 'e, E: Debug + Drop>(
+    alloc: Global,
+    read: Result<(&[u8], T), E>,
+) -> Result<&'e T, Fail> {
     match read {
-        Ok(([], value)) => Ok(value),
+        Ok(([], value)) => kept(alloc, value),
         Ok(_) => Err(Fail::from("bytes behind it")),
-        Err(_) => Err(Fail::from("refused")),
+        Err(e) => Err(Fail::from(e)),
     }
+}
+
+/// Whether the value is shown so.
+pub fn shows<D: Display>(alloc: Global, value: &D, wanted: &str) -> Result<bool, Fail> {
+    let shown = format!(in alloc; "{value}")?;
+    Ok(shown.as_str() == wanted)
+}
+
+/// Why the bytes are no certificate, and why they are none to the strict reader.
+pub fn refusals(alloc: Global, bytes: &[u8]) -> [Option<Err<X509Error>>; 2] {
+    let loose = parse_x509_certificate(alloc, bytes).err();
+    [loose, parse_x509_certificate_strict(alloc, bytes).err()]
+}
+
+// Critical extensions 1.2, 1.3, 1.2, 1.4 and 1.4 without contents.
+const REPEATED: &[u8] =
+    b"\xA3\x34\x30\x32\x30\x08\x06\x01\x2A\x01\x01\xFF\x04\x00\x30\x08\x06\x01\x2B\x01\x01\xFF\x04\x00\x30\x08\x06\x01\x2A\x01\x01\xFF\x04\x00\x30\x08\x06\x01\x2C\x01\x01\xFF\x04\x00\x30\x08\x06\x01\x2C\x01\x01\xFF\x04\x00";
+
+/// A certificate with the extensions 1.2, 1.3, 1.2, 1.4 and 1.4.
+pub fn repeated(alloc: Global) -> Result<&'static X509Certificate<'static>, Fail> {
+    let bytes = replaced(alloc, EXTENDED_BYTES, EXTENSIONS, REPEATED)?;
+    whole(alloc, parse_x509_certificate(alloc, bytes))
 }

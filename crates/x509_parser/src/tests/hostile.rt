@@ -1,31 +1,27 @@
-//! Bytes that are no certificates.
+//! Bytes that are no certificates, certificates that stand plainly and others, and how many headers are looked at.
 
 use super::fixtures::{
-    ALGORITHM, BITS, EXTENDED_BYTES, KEY, PLAIN_BYTES, Place, SERIAL, VERSION, replaced,
+    ALGORITHM, BITS, EXTENDED_BYTES, EXTENSIONS, KEY, PLAIN_BYTES, Place, SERIAL, VERSION, joined,
+    kept, refusals, replaced,
 };
-use crate::parse_x509_certificate_strict;
+use super::lists::PLAIN_LIST;
+use super::requests::PLAIN_REQUEST;
 use crate::prelude::*;
 use std::alloc::Global;
 use std::test::Fail;
-use x509_der::{BerError, Err, ErrorKind};
+use x509_der::{BerError, Err, ErrorKind, Tries};
 
 const TAG: X509Error = X509Error::Der(BerError::InvalidTag);
 
 const LENGTH: X509Error = X509Error::Der(BerError::InvalidLength);
-
-// Whether the bytes are refused so, by the strict reader too.
-fn are_refused(alloc: Global, bytes: &[u8], refusal: Err<X509Error>) -> bool {
-    matches!(parse_x509_certificate(alloc, bytes), Err(e) if e == refusal)
-        && matches!(parse_x509_certificate_strict(alloc, bytes), Err(e) if e == refusal)
-}
 
 #[test]
 fn fronts(rt: HostRuntime) {
     for whole in [PLAIN_BYTES.as_slice(), EXTENDED_BYTES] {
         for length in 0..whole.len() {
             let front = whole.get(..length).unwrap_or_default();
-            let refused = are_refused(rt.alloc(), front, Err::Incomplete);
-            assert!(rt; refused, "at {length}");
+            let wanted = [Some(Err::Incomplete); 2];
+            assert_eq!(rt; refusals(rt.alloc(), front), wanted, "at {length}");
         }
     }
 }
@@ -44,7 +40,8 @@ const FIRST_HEADERS: [(&[u8], Err<X509Error>); 8] = [
 #[test]
 fn first_headers(rt: HostRuntime) {
     for (bytes, refusal) in FIRST_HEADERS {
-        assert!(rt; are_refused(rt.alloc(), bytes, refusal), "at {bytes:?}");
+        let wanted = [Some(refusal); 2];
+        assert_eq!(rt; refusals(rt.alloc(), bytes), wanted, "at {bytes:?}");
     }
 }
 
@@ -56,13 +53,14 @@ fn wrong_lengths(rt: HostRuntime) {
         let mut bytes = *PLAIN_BYTES;
         bytes[3] = length;
         let read = parse_x509_certificate(rt.alloc(), &bytes);
-        assert!(rt; matches!(read, Err(e) if e == refusal), "at {length}");
+        assert_eq!(rt; read.err(), Some(refusal), "at {length}");
     }
     // an extension longer than its list
     let mut bytes = *EXTENDED_BYTES;
     bytes[68] = 0x1e;
     let read = parse_x509_certificate(rt.alloc(), &bytes);
-    assert!(rt; matches!(read, Err(Err::Error(X509Error::NomError(ErrorKind::Eof)))));
+    let refusal = Err::Error(X509Error::NomError(ErrorKind::Eof));
+    assert_eq!(rt; read.err(), Some(refusal));
 }
 
 const UNREADABLE: [(Place, &[u8], X509Error); 7] = [
@@ -80,8 +78,108 @@ const UNREADABLE: [(Place, &[u8], X509Error); 7] = [
 fn unreadable_fields(rt: HostRuntime) -> Result<(), Fail> {
     for (place, bytes, error) in UNREADABLE {
         let whole = replaced(rt.alloc(), PLAIN_BYTES, place, bytes)?;
-        let refused = are_refused(rt.alloc(), whole.as_slice(), Err::Error(error));
-        assert!(rt; refused, "at {bytes:?}");
+        let wanted = [Some(Err::Error(error)); 2];
+        assert_eq!(rt; refusals(rt.alloc(), whole), wanted, "at {bytes:?}");
     }
     Ok(())
+}
+
+const CRITICAL: &[u8] = b"\xA3\x10\x30\x0E\x30\x0C\x06\x03\x55\x1D\x13\x01\x01\xFF\x04\x02\x30\x00";
+
+const UNREADABLE_VALUE: &[u8] = b"\xA3\x0E\x30\x0C\x30\x0A\x06\x03\x55\x1D\x0F\x04\x03\x04\x01\x00";
+
+const PLAINLY: [(&[u8], Place, &[u8]); 6] = [
+    (PLAIN_BYTES, VERSION, b""),
+    (EXTENDED_BYTES, VERSION, b""),
+    // a negative serial; a version with a zero in front
+    (PLAIN_BYTES, SERIAL, b"\x02\x01\xFF"),
+    (PLAIN_BYTES, VERSION, b"\xA0\x04\x02\x02\x00\x02"),
+    // a critical extension; a value that can't be read, which refuses nothing
+    (EXTENDED_BYTES, EXTENSIONS, CRITICAL),
+    (EXTENDED_BYTES, EXTENSIONS, UNREADABLE_VALUE),
+];
+
+#[test]
+fn plain(rt: HostRuntime) -> Result<(), Fail> {
+    for (sample, place, bytes) in PLAINLY {
+        let whole = replaced(rt.alloc(), sample, place, bytes)?;
+        // bytes behind the certificate are none of its own
+        for tail in [b"".as_slice(), b"\x05\x00"] {
+            let longer = &*joined(rt.alloc(), &[whole, tail])?;
+            let loose = kept(rt.alloc(), parse_x509_certificate(rt.alloc(), longer)?)?;
+            let strict = parse_x509_certificate_strict(rt.alloc(), longer)?;
+            let strict = kept(rt.alloc(), strict)?;
+            assert!(rt; strict.1 == loose.1 && strict.0 == loose.0, "at {bytes:?}");
+            assert_eq!(rt; strict.0, tail);
+        }
+    }
+    Ok(())
+}
+
+const BY_BASIC_RULES: &[u8] =
+    b"\xA3\x10\x30\x0E\x30\x0C\x06\x03\x55\x1D\x13\x01\x01\x01\x04\x02\x30\x00";
+
+const BEHIND_A_VALUE: &[u8] = b"\xA3\x0E\x30\x0C\x30\x0A\x06\x03\x55\x1D\x0E\x04\x03\x04\x00\x00";
+
+const BAD_NAME: &[u8] = b"\xA3\x10\x30\x0E\x30\x0C\x06\x03\x55\x1D\x11\x04\x05\x30\x03\x82\x01\xFF";
+
+const LOOSELY: [(&[u8], Place, &[u8]); 10] = [
+    // bytes behind the signature
+    (PLAIN_BYTES, BITS, b"\x03\x01\x00\x05\x00"),
+    // serials: a length in two octets, none, of context class, with a zero too many
+    (PLAIN_BYTES, SERIAL, b"\x02\x81\x01\x05"),
+    (PLAIN_BYTES, SERIAL, b"\x02\x00"),
+    (PLAIN_BYTES, SERIAL, b"\x82\x01\x02"),
+    (PLAIN_BYTES, SERIAL, b"\x02\x02\x00\x05"),
+    // parameters cut short
+    (PLAIN_BYTES, ALGORITHM, b"\x30\x05\x06\x01\x2A\x05\x7F"),
+    // critical by the basic rules
+    (EXTENDED_BYTES, EXTENSIONS, BY_BASIC_RULES),
+    // bytes behind a key identifier; a general name that can't be read
+    (EXTENDED_BYTES, EXTENSIONS, BEHIND_A_VALUE),
+    (EXTENDED_BYTES, EXTENSIONS, BAD_NAME),
+    // another length of the wrapper
+    (EXTENDED_BYTES, (64, 65), b"\x00"),
+];
+
+#[test]
+fn loose(rt: HostRuntime) -> Result<(), Fail> {
+    for (sample, place, bytes) in LOOSELY {
+        let whole = replaced(rt.alloc(), sample, place, bytes)?;
+        let wanted = [None, Some(Err::Error(X509Error::Generic))];
+        assert_eq!(rt; refusals(rt.alloc(), whole), wanted, "at {bytes:?}");
+    }
+    Ok(())
+}
+
+// How many headers a reader looks at, whatever it answers.
+fn looks<'a, T: FromDer<'a, X509Error> + Drop>(alloc: Global, bytes: &'a [u8]) -> u128 {
+    let mut tries = Tries::new();
+    let _ = T::read(alloc, &mut tries, bytes);
+    tries.count()
+}
+
+/// As many as there are elements, and at most eight a byte.
+#[test]
+fn headers(rt: HostRuntime) {
+    let certificate = looks::<X509Certificate<'_>>(rt.alloc(), PLAIN_BYTES);
+    assert!(rt; certificate >= 17 && certificate <= 528);
+    let mut shallow = Tries::new();
+    let parser = X509CertificateParser::new().with_deep_parse_extensions(false);
+    let read = parser.read(rt.alloc(), &mut shallow, EXTENDED_BYTES);
+    assert_eq!(rt; read.err(), None);
+    assert!(rt; shallow.count() >= 24 && shallow.count() <= 672);
+    let list = looks::<CertificateRevocationList<'_>>(rt.alloc(), PLAIN_LIST);
+    assert!(rt; list >= 9 && list <= 272);
+    let request = looks::<X509CertificationRequest<'_>>(rt.alloc(), PLAIN_REQUEST);
+    assert!(rt; request >= 12 && request <= 232);
+}
+
+/// Each soft field's header is looked at once: a descent that tries each field anew makes three looks.
+#[test]
+fn soft_fields(rt: HostRuntime) {
+    let policies = looks::<PolicyConstraints>(rt.alloc(), b"\x30\x03\x81\x01\x05");
+    assert_eq!(rt; policies, 2);
+    let basic = looks::<BasicConstraints>(rt.alloc(), b"\x30\x03\x02\x01\x05");
+    assert_eq!(rt; basic, 2);
 }

@@ -1,6 +1,6 @@
 //! Keys, their parameters and kinds of signatures.
 
-use super::fixtures::whole;
+use super::fixtures::{kept, whole};
 use crate::prelude::*;
 use crate::public_key::{ECPoint, RSAPublicKey};
 use crate::signature_algorithm::{RsaSsaPssParams, SignatureAlgorithm};
@@ -16,7 +16,7 @@ fn any(bytes: &[u8]) -> Result<Any<'_>, Err<BerError>> {
 #[test]
 fn rsa_keys(rt: HostRuntime) -> Result<(), Fail> {
     let bytes: &[u8] = b"\x30\x08\x02\x03\x00\xC5\x01\x02\x01\x03";
-    let key = whole(RSAPublicKey::from_der(rt.alloc(), bytes))?;
+    let key = whole(rt.alloc(), RSAPublicKey::from_der(rt.alloc(), bytes))?;
     assert_eq!(rt; key.modulus, b"\x00\xC5\x01".as_slice());
     assert_eq!(rt; key.try_exponent(), Ok(3));
     assert_eq!(rt; key.key_size(), 16);
@@ -27,48 +27,47 @@ fn rsa_keys(rt: HostRuntime) -> Result<(), Fail> {
         (b"", Err(X509Error::InvalidNumber)),
     ] {
         let modulus: &[u8] = b"\x05";
-        let key = RSAPublicKey { modulus, exponent };
-        assert_eq!(rt; key.try_exponent(), number);
+        let found = RSAPublicKey { modulus, exponent }.try_exponent();
+        assert_eq!(rt; found, number);
     }
     // moduli without a size
     for modulus in [b"\x80".as_slice(), b""] {
         let exponent: &[u8] = b"\x03";
-        let key = RSAPublicKey { modulus, exponent };
-        assert_eq!(rt; key.key_size(), 0);
+        let size = RSAPublicKey { modulus, exponent }.key_size();
+        assert_eq!(rt; size, 0);
     }
     // a point: 04 and two coordinates
     let mut bytes = [0x11; 65];
     bytes[0] = 0x04;
-    assert_eq!(rt; ECPoint::from(bytes.as_slice()).key_size(), 256);
+    let size = ECPoint::from(bytes.as_slice()).key_size();
+    assert_eq!(rt; size, 256);
     Ok(())
 }
 
-/// Parameters of RSASSA-PSS, and the length of the salt or the refusal.
-const PARAMETERS: [(&[u8], Result<u32, BerError>); 5] = [
-    (b"\x30\x00", Ok(20)),
-    (b"\x30\x05\xA2\x03\x02\x01\x1E", Ok(30)),
-    (b"\x31\x00", Err(BerError::InvalidTag)),
-    (b"\x30\x05\x82\x03\x02\x01\x1E", Err(BerError::InvalidTag)),
-    (b"\x30\x02\xA2\x05", Err(BerError::Incomplete)),
+/// Parameters of RSASSA-PSS, and the length of the salt.
+const PARAMETERS: [(&[u8], u32); 2] = [(b"\x30\x00", 20), (b"\x30\x05\xA2\x03\x02\x01\x1E", 30)];
+
+/// Bytes that are none, and the refusal.
+const NO_PARAMETERS: [(&[u8], BerError); 3] = [
+    (b"\x31\x00", BerError::InvalidTag),
+    (b"\x30\x05\x82\x03\x02\x01\x1E", BerError::InvalidTag),
+    (b"\x30\x02\xA2\x05", BerError::Incomplete),
 ];
 
 #[test]
 fn pss_parameters(rt: HostRuntime) -> Result<(), Fail> {
-    for (bytes, wanted) in PARAMETERS {
-        match (RsaSsaPssParams::try_from(any(bytes)?), wanted) {
-            (Ok(found), Ok(salt)) => {
-                assert_eq!(rt; found.salt_length(), salt);
-                assert_eq!(rt; found.trailer_field(), 1);
-                assert_eq!(rt; found.hash_algorithm_oid().as_bytes(), OID_HASH_SHA1);
-                let mask = found.mask_gen_algorithm()?;
-                assert_eq!(rt; mask.mgf, Oid::new(b"\x2A\x86\x48\x86\xF7\x0D\x01\x01\x08"));
-                assert_eq!(rt; mask.hash.as_bytes(), OID_HASH_SHA1);
-            }
-            (found, wanted) => {
-                let alike = matches!((found, wanted), (Err(X509Error::Der(a)), Err(b)) if a == b);
-                assert!(rt; alike, "at {bytes:?}");
-            }
-        }
+    for (bytes, salt) in PARAMETERS {
+        let found = kept(rt.alloc(), RsaSsaPssParams::try_from(any(bytes)?)?)?;
+        assert_eq!(rt; found.salt_length(), salt);
+        assert_eq!(rt; found.trailer_field(), 1);
+        assert_eq!(rt; found.hash_algorithm_oid().as_bytes(), OID_HASH_SHA1);
+        let mask = kept(rt.alloc(), found.mask_gen_algorithm()?)?;
+        assert_eq!(rt; mask.mgf, Oid::new(b"\x2A\x86\x48\x86\xF7\x0D\x01\x01\x08"));
+        assert_eq!(rt; mask.hash.as_bytes(), OID_HASH_SHA1);
+    }
+    for (bytes, error) in NO_PARAMETERS {
+        let read = RsaSsaPssParams::try_from(any(bytes)?);
+        assert_eq!(rt; read.err(), Some(X509Error::Der(error)), "at {bytes:?}");
     }
     Ok(())
 }

@@ -1,7 +1,8 @@
 //! Names, identifiers and the registry.
 
-use super::fixtures::whole;
+use super::fixtures::{kept, shows, whole};
 use crate::prelude::*;
+use std::alloc::Global;
 use std::test::Fail;
 use x509_der::{Any, Oid, Tag};
 
@@ -18,23 +19,26 @@ const NAMES: [(&[u8], &str, usize); 4] = [
     (b"\x30\x04\x31\x00\x05\x00", "", 2),
 ];
 
+// Whether the name is shown so, with the registry of all identifiers too.
+fn is_shown(alloc: Global, name: &X509Name<'static>, text: &str) -> Result<bool, Fail> {
+    let registry = kept(alloc, oid_registry(alloc)?)?;
+    let registered = kept(alloc, name.to_string_with_registry(alloc, registry)?)?;
+    Ok(registered.as_str() == text && shows(alloc, name, text)?)
+}
+
 #[test]
 fn names_as_text(rt: HostRuntime) -> Result<(), Fail> {
-    let registry = oid_registry(rt.alloc())?;
     for (bytes, text, window) in NAMES {
-        let name = whole(X509Name::from_der(rt.alloc(), bytes))?;
+        let name = whole(rt.alloc(), X509Name::from_der(rt.alloc(), bytes))?;
         assert!(rt; bytes.starts_with(name.as_raw()));
         assert_eq!(rt; name.as_raw().len(), window);
-        assert_eq!(rt; format!(in rt.alloc(); "{name}")?.as_str(), text);
-        let registered = name.to_string_with_registry(rt.alloc(), &registry)?;
-        assert_eq!(rt; registered.as_str(), text);
+        assert!(rt; is_shown(rt.alloc(), name, text)?, "at {text}");
     }
     Ok(())
 }
 
-#[test]
-fn a_name_that_is_built(rt: HostRuntime) -> Result<(), Fail> {
-    let alloc = rt.alloc();
+// A name of a country, a state, a company and two common names.
+fn built(alloc: Global) -> Result<X509Name<'static>, Fail> {
     let mut names = Vec::new(alloc);
     for (oid, text) in [
         (OID_X509_COUNTRY_NAME, b"FR".as_slice()),
@@ -45,19 +49,22 @@ fn a_name_that_is_built(rt: HostRuntime) -> Result<(), Fail> {
         let one = vec![in alloc; AttributeTypeAndValue::new(Oid::new(oid), value)]?;
         names.push(RelativeDistinguishedName::new(one))?;
     }
+    let common = Oid::new(OID_X509_COMMON_NAME);
     let first = Any::from_tag_and_data(Tag::PrintableString, b"Test1");
     let second = Any::from_tag_and_data(Tag::PrintableString, b"Test2");
-    let common = Oid::new(OID_X509_COMMON_NAME);
     let both = vec![in alloc;
         AttributeTypeAndValue::new(common, first),
         AttributeTypeAndValue::new(common, second),
     ]?;
     names.push(RelativeDistinguishedName::new(both))?;
-    let name = X509Name::from_list(names);
+    Ok(X509Name::from_list(names))
+}
+
+#[test]
+fn a_name_that_is_built(rt: HostRuntime) -> Result<(), Fail> {
+    let name = kept(rt.alloc(), built(rt.alloc())?)?;
     let wanted = "C=FR, ST=Some-State, O=Internet Widgits Pty Ltd, CN=Test1 + CN=Test2";
-    assert_eq!(rt; format!(in alloc; "{name}")?.as_str(), wanted);
-    let registered = name.to_string_with_registry(alloc, &oid_registry(alloc)?)?;
-    assert_eq!(rt; registered.as_str(), wanted);
+    assert!(rt; is_shown(rt.alloc(), name, wanted)?);
     Ok(())
 }
 
@@ -81,26 +88,25 @@ const IDENTIFIERS: [(&[u8], &str); 9] = [
 #[test]
 fn identifiers_as_text(rt: HostRuntime) -> Result<(), Fail> {
     for (octets, text) in IDENTIFIERS {
-        let shown = format!(in rt.alloc(); "{}", Oid::new(octets))?;
-        assert_eq!(rt; shown.as_str(), text);
+        assert!(rt; shows(rt.alloc(), &Oid::new(octets), text)?, "at {text}");
     }
     Ok(())
 }
 
 #[test]
 fn words_of_identifiers(rt: HostRuntime) -> Result<(), Fail> {
-    let registry = oid_registry(rt.alloc())?;
+    let registry = kept(rt.alloc(), oid_registry(rt.alloc())?)?;
     let common = Oid::new(b"\x55\x04\x03");
-    assert_eq!(rt; oid2sn(&common, &registry), Ok("commonName"));
-    assert_eq!(rt; oid2abbrev(&common, &registry), Ok("CN"));
+    assert_eq!(rt; oid2sn(&common, registry), Ok("commonName"));
+    assert_eq!(rt; oid2abbrev(&common, registry), Ok("CN"));
     let usage = Oid::new(b"\x55\x1D\x0F");
-    assert_eq!(rt; oid2abbrev(&usage, &registry), Ok("keyUsage"));
+    assert_eq!(rt; oid2abbrev(&usage, registry), Ok("keyUsage"));
     let mask = Oid::new(b"\x2A\x86\x48\x86\xF7\x0D\x01\x01\x08");
-    assert_eq!(rt; oid2sn(&mask, &registry), Ok("id-mgf1"));
-    let words = oid2description(&mask, &registry);
+    assert_eq!(rt; oid2sn(&mask, registry), Ok("id-mgf1"));
+    let words = oid2description(&mask, registry);
     assert_eq!(rt; words, Ok("Mask Generator Function 1 (MGF1)"));
     let unknown = Oid::new(b"\x2A\x03");
-    assert_eq!(rt; oid2abbrev(&unknown, &registry), Err(NidError));
+    assert_eq!(rt; oid2abbrev(&unknown, registry), Err(NidError));
     Ok(())
 }
 
@@ -108,13 +114,14 @@ fn words_of_identifiers(rt: HostRuntime) -> Result<(), Fail> {
 #[test]
 fn fields(rt: HostRuntime) -> Result<(), Fail> {
     let bytes = b"\x30\x81\x08\x30\x03\x06\x01\x2A\x03\x01\x00";
-    let read = crate::x509::SubjectPublicKeyInfo::from_der(rt.alloc(), bytes);
-    assert!(rt; matches!(read, Err(e) if e.word() == "invalid length"));
+    let read = SubjectPublicKeyInfo::from_der(rt.alloc(), bytes);
+    assert!(rt; matches!(read.err(), Some(e) if e.word() == "invalid length"));
     for (version, text) in [(2, "V3"), (5, "X509Version(5 / 0x5)")] {
-        let shown = format!(in rt.alloc(); "{}", X509Version(version))?;
-        assert_eq!(rt; shown.as_str(), text);
+        let shown = shows(rt.alloc(), &X509Version(version), text)?;
+        assert!(rt; shown, "at {text}");
     }
-    let serial = crate::utils::format_serial(rt.alloc(), b"\x01\x02\x03\x04\xFF")?;
+    let serial = format_serial(rt.alloc(), b"\x01\x02\x03\x04\xFF")?;
+    let serial = kept(rt.alloc(), serial)?;
     assert_eq!(rt; serial.as_str(), "01:02:03:04:ff");
     Ok(())
 }

@@ -1,14 +1,11 @@
-//! Validators and loggers.
+//! Validators, loggers and walks over certificates and lists.
 
-use super::fixtures::{EXTENDED_BYTES, PLAIN_BYTES};
+use super::fixtures::{self, EXTENDED_BYTES, PLAIN_BYTES, whole};
+use super::lists::PLAIN_LIST;
 use crate::prelude::*;
-use crate::validate::{
-    CallbackLogger, Logger, StderrLogger, Validate, Validator, VecLogger, X509ExtensionsValidator,
-    chain, log_warning_if,
-};
-use std::alloc::Global;
+use crate::visitor::{CertificateRevocationListVisitor, X509CertificateVisitor};
+use std::alloc::{AllocError, Global};
 use std::test::Fail;
-use x509_der::Oid;
 use x509_loggers::validate_to_vec;
 
 const UNVERSIONED: &[u8; 101] =
@@ -30,84 +27,46 @@ fn are(found: &[String], texts: &[&str]) -> bool {
     found.len() == texts.len() && found.iter().zip(texts).all(|(a, b)| a.as_str() == *b)
 }
 
+/// The answer, the warnings and the errors.
+type Report = (bool, Vec<String>, Vec<String>);
+
+// Whether the report has this answer and these texts, in order.
+fn says(report: Report, sound: bool, warnings: &[&str], errors: &[&str]) -> bool {
+    let told = are(report.1.as_slice(), warnings) && are(report.2.as_slice(), errors);
+    told && report.0 == sound
+}
+
 #[test]
 fn certificates(rt: HostRuntime) -> Result<(), Fail> {
-    for (bytes, wanted) in CERTIFICATES {
-        let (_, certificate) = parse_x509_certificate(rt.alloc(), bytes)?;
-        let (answer, warnings, errors) = certificate.validate_to_vec(rt.alloc())?;
-        assert_eq!(rt; answer, wanted.is_empty());
-        assert!(rt; are(warnings.as_slice(), &["Unknown public key type"]));
-        assert!(rt; are(errors.as_slice(), wanted), "at {wanted:?}");
+    let warnings = ["Unknown public key type"];
+    for (bytes, errors) in CERTIFICATES {
+        let certificate = whole(rt.alloc(), parse_x509_certificate(rt.alloc(), bytes))?;
+        let report = certificate.validate_to_vec(rt.alloc())?;
+        let told = says(report, errors.is_empty(), &warnings, errors);
+        assert!(rt; told, "at {errors:?}");
     }
     Ok(())
 }
 
-/// Critical extensions 1.2, 1.3, 1.2, 1.4 and 1.4 whose values weren't looked at.
-fn repeated<'e>(alloc: Global) -> Result<Vec<X509Extension<'e>>, X509Error> {
-    let mut extensions = Vec::new(alloc);
-    for octets in [b"\x2A".as_slice(), b"\x2B", b"\x2A", b"\x2C", b"\x2C"] {
-        let one = X509Extension::new(Oid::new(octets), true, &[], ParsedExtension::Unparsed);
-        if extensions.push(one).is_err() {
-            return Err(X509Error::OutOfMemory);
-        }
-    }
-    Ok(extensions)
-}
-
-/// The answer, the warnings and the errors.
-type Report = (bool, Vec<String>, Vec<String>);
-
-/// Whether the report has this answer and these texts, in order.
-fn says(report: &Report, sound: bool, warnings: &[&str], errors: &[&str]) -> bool {
-    report.0 == sound && are(report.1.as_slice(), warnings) && are(report.2.as_slice(), errors)
-}
-
-/// What a validator of lists says of these members.
+// What a validator of lists says of these members.
 fn report_by<'a, T, V: Validator<'a, Item = &'a [T]>>(
     alloc: Global,
     validator: &V,
     members: &'a [T],
-) -> Result<Report, Fail> {
-    Ok(validate_to_vec(alloc, validator, &members)?)
-}
-
-/// What is said of these extensions.
-fn report<'e>(alloc: Global, extensions: &'e [X509Extension<'e>]) -> Result<Report, Fail> {
-    report_by(alloc, &X509ExtensionsValidator, extensions)
-}
-
-/// The same, told twice.
-fn report_twice<'e>(alloc: Global, extensions: &'e [X509Extension<'e>]) -> Result<Report, Fail> {
-    let both = chain(X509ExtensionsValidator, X509ExtensionsValidator);
-    report_by(alloc, &both, extensions)
-}
-
-/// The members, which are never let go.
-fn kept<'e, T: Drop + 'e>(members: Vec<T>) -> &'e [T] {
-    members.leak()
-}
-
-#[test]
-fn repeated_extensions(rt: HostRuntime) -> Result<(), Fail> {
-    let extensions = kept(repeated(rt.alloc())?);
-    let found = report(rt.alloc(), extensions)?;
-    let errors = ["Duplicate extension 1.2", "Duplicate extension 1.4"];
-    assert!(rt; says(&found, false, &[], &errors));
-    Ok(())
+) -> Result<Report, AllocError> {
+    validate_to_vec(alloc, validator, &members)
 }
 
 /// Both validators of a chain run, whatever the first one answers.
 #[test]
-fn chained_with_itself(rt: HostRuntime) -> Result<(), Fail> {
-    let extensions = kept(repeated(rt.alloc())?);
-    let found = report_twice(rt.alloc(), extensions)?;
-    let errors = [
-        "Duplicate extension 1.2",
-        "Duplicate extension 1.4",
-        "Duplicate extension 1.2",
-        "Duplicate extension 1.4",
-    ];
-    assert!(rt; says(&found, false, &[], &errors));
+fn repeated_extensions(rt: HostRuntime) -> Result<(), Fail> {
+    let extensions = fixtures::repeated(rt.alloc())?.extensions();
+    let (first, second) = ("Duplicate extension 1.2", "Duplicate extension 1.4");
+    let report = report_by(rt.alloc(), &X509ExtensionsValidator, extensions)?;
+    assert!(rt; says(report, false, &[], &[first, second]));
+    let both = chain(X509ExtensionsValidator, X509ExtensionsValidator);
+    let report = report_by(rt.alloc(), &both, extensions)?;
+    assert!(rt; says(report, false, &[], &[first, second, first, second]));
     Ok(())
 }
 
@@ -126,18 +85,23 @@ fn a_refused_message(rt: HostRuntime) {
             }
         },
     );
-    assert_eq!(rt; logger.err("a is odd"), Ok(()));
-    assert_eq!(rt; logger.err("b is even"), Err(X509Error::Generic));
+    let answers = (logger.err("a is odd"), logger.err("b is even"));
     drop(logger);
+    assert_eq!(rt; answers, (Ok(()), Err(X509Error::Generic)));
     assert_eq!(rt; calls, 2);
+}
+
+// A warning and an error, as lines.
+fn write_two(bytes: &mut Vec<u8>) -> Result<(), X509Error> {
+    let mut logger = StderrLogger::new(bytes);
+    logger.warn("a is odd")?;
+    logger.err("b is even")
 }
 
 #[test]
 fn lines_of_a_writer(rt: HostRuntime) -> Result<(), Fail> {
     let mut bytes = Vec::new(rt.alloc());
-    let mut logger = StderrLogger::new(&mut bytes);
-    logger.warn("a is odd")?;
-    logger.err("b is even")?;
+    write_two(&mut bytes)?;
     let lines: &[u8] = b"[W] a is odd\n[E] b is even\n";
     assert_eq!(rt; bytes.as_slice(), lines);
     Ok(())
@@ -168,6 +132,18 @@ impl<'a> Validator<'a> for SmallNumbers {
     }
 }
 
+// Whether the validator warns of the number so, tells no error and finds it sound.
+fn warns<'a, V: Validator<'a, Item = u32>>(
+    alloc: Global,
+    validator: &V,
+    number: u32,
+    warnings: &[&str],
+) -> Result<bool, X509Error> {
+    let mut logger = VecLogger::new(alloc);
+    let sound = validator.validate(alloc, &number, &mut logger)?;
+    Ok(sound && are(logger.warnings(), warnings) && logger.errors().is_empty())
+}
+
 #[test]
 fn small_numbers(rt: HostRuntime) -> Result<(), Fail> {
     let text = "a is greater than 10";
@@ -176,12 +152,88 @@ fn small_numbers(rt: HostRuntime) -> Result<(), Fail> {
         (1, [].as_slice(), [].as_slice()),
         (20, &[text], &[text, text]),
     ] {
-        let mut logger = VecLogger::new(rt.alloc());
-        assert!(rt; SmallNumbers.validate(rt.alloc(), &number, &mut logger)?);
-        assert!(rt; are(logger.warnings(), once) && logger.errors().is_empty());
-        let mut logger = VecLogger::new(rt.alloc());
-        assert!(rt; both.validate(rt.alloc(), &number, &mut logger)?);
-        assert!(rt; are(logger.warnings(), twice) && logger.errors().is_empty());
+        assert!(rt; warns(rt.alloc(), &SmallNumbers, number, once)?);
+        assert!(rt; warns(rt.alloc(), &both, number, twice)?);
     }
+    Ok(())
+}
+
+/// Keeps the key's identifier, counts the extensions and the issuers, and may refuse an extension.
+#[derive(Default, Drop)]
+struct Keys {
+    identifier: [u8; 20],
+    extensions: u32,
+    issuers: u32,
+    refusing: bool,
+}
+
+impl X509CertificateVisitor for Keys {
+    ghost use Rattle.std.specs.Prelude.{⊤};
+
+    ghost step = { λ _ _ _ _. ⊤ };
+
+    fn visit_issuer(&mut self, name: &X509Name<'_>) -> Result<(), X509Error> {
+        let _ = name;
+        self.issuers = self.issuers.saturating_add(1);
+        Ok(())
+    }
+
+    fn visit_extension(&mut self, extension: &X509Extension<'_>) -> Result<(), X509Error> {
+        let _ = extension;
+        self.extensions = self.extensions.saturating_add(1);
+        if self.refusing {
+            Err(X509Error::Generic)
+        } else {
+            Ok(())
+        }
+    }
+
+    fn visit_extension_ski(&mut self, identifier: &KeyIdentifier<'_>) -> Result<(), X509Error> {
+        if let Some(octets) = identifier.0.first_chunk() {
+            self.identifier = *octets;
+        }
+        Ok(())
+    }
+}
+
+#[test]
+fn walked_certificates(rt: HostRuntime) -> Result<(), Fail> {
+    let bytes: &[u8] = EXTENDED_BYTES;
+    let certificate = whole(rt.alloc(), parse_x509_certificate(rt.alloc(), bytes))?;
+    let mut keys = Keys::default();
+    keys.walk(certificate)?;
+    assert_eq!(rt; (keys.issuers, keys.extensions), (1, 1));
+    assert_eq!(rt; keys.identifier.as_slice(), &bytes[78..98]);
+    // a visit that is refused is the last one
+    let mut refusing = Keys::default();
+    refusing.refusing = true;
+    assert_eq!(rt; refusing.walk(certificate), Err(X509Error::Generic));
+    assert_eq!(rt; (refusing.issuers, refusing.extensions), (1, 1));
+    assert_eq!(rt; refusing.identifier, [0; 20]);
+    Ok(())
+}
+
+/// Counts the dates of a list.
+#[derive(Drop)]
+struct Dates(u32);
+
+impl CertificateRevocationListVisitor for Dates {
+    ghost use Rattle.std.specs.Prelude.{⊤};
+
+    ghost step = { λ _ _ _ _. ⊤ };
+
+    fn visit_this_update(&mut self, time: &ASN1Time) -> Result<(), X509Error> {
+        let _ = time;
+        self.0 = self.0.saturating_add(1);
+        Ok(())
+    }
+}
+
+#[test]
+fn walked_lists(rt: HostRuntime) -> Result<(), Fail> {
+    let list = whole(rt.alloc(), parse_x509_crl(rt.alloc(), PLAIN_LIST))?;
+    let mut dates = Dates(0);
+    dates.walk(list)?;
+    assert_eq!(rt; dates.0, 1);
     Ok(())
 }

@@ -1,6 +1,6 @@
 //! Values of extensions.
 
-use super::fixtures::{joined, whole};
+use super::fixtures::{joined, shows, whole};
 use crate::prelude::*;
 use std::test::Fail;
 use x509_der::{BerError, Err, ErrorKind, Oid};
@@ -9,17 +9,6 @@ const TRAILING: X509Error = X509Error::Der(BerError::NomError(ErrorKind::Eof));
 
 const TAG: X509Error = X509Error::Der(BerError::InvalidTag);
 
-#[test]
-fn policy_constraints(rt: HostRuntime) -> Result<(), Fail> {
-    let (_, both) = PolicyConstraints::from_der(rt.alloc(), b"\x30\x06\x80\x01\x00\x81\x01\x05")?;
-    assert_eq!(rt; both.require_explicit_policy, Some(0));
-    assert_eq!(rt; both.inhibit_policy_mapping, Some(5));
-    // in another order
-    let read = PolicyConstraints::from_der(rt.alloc(), b"\x30\x06\x81\x01\x00\x80\x01\x00");
-    assert!(rt; matches!(read, Err(Err::Error(e)) if e == TRAILING));
-    Ok(())
-}
-
 const BASIC: [(&[u8], bool, Option<u32>); 3] = [
     (b"\x30\x06\x01\x01\xFF\x02\x01\x00", true, Some(0)),
     (b"\x30\x03\x02\x01\x05", false, Some(5)),
@@ -27,14 +16,20 @@ const BASIC: [(&[u8], bool, Option<u32>); 3] = [
 ];
 
 #[test]
-fn basic_constraints(rt: HostRuntime) -> Result<(), Fail> {
+fn constraints(rt: HostRuntime) -> Result<(), Fail> {
+    let (_, both) = PolicyConstraints::from_der(rt.alloc(), b"\x30\x06\x80\x01\x00\x81\x01\x05")?;
+    assert_eq!(rt; both.require_explicit_policy, Some(0));
+    assert_eq!(rt; both.inhibit_policy_mapping, Some(5));
+    // in another order
+    let read = PolicyConstraints::from_der(rt.alloc(), b"\x30\x06\x81\x01\x00\x80\x01\x00");
+    assert_eq!(rt; read.err(), Some(Err::Error(TRAILING)));
     for (bytes, ca, length) in BASIC {
         let (_, read) = BasicConstraints::from_der(rt.alloc(), bytes)?;
         assert_eq!(rt; (read.ca, read.path_len_constraint), (ca, length));
     }
     let read = BasicConstraints::from_der(rt.alloc(), b"\x30\x03\x01\x01\x01");
     let value = X509Error::Der(BerError::BerValueError);
-    assert!(rt; matches!(read, Err(Err::Error(e)) if e == value));
+    assert_eq!(rt; read.err(), Some(Err::Error(value)));
     Ok(())
 }
 
@@ -53,7 +48,7 @@ fn flags(rt: HostRuntime) -> Result<(), Fail> {
     for (bytes, flags, text) in USAGES {
         let (_, usage) = KeyUsage::from_der(rt.alloc(), bytes)?;
         assert_eq!(rt; usage.flags, flags);
-        assert_eq!(rt; format!(in rt.alloc(); "{usage}")?.as_str(), text);
+        assert!(rt; shows(rt.alloc(), &usage, text)?, "at {text}");
     }
     let usage = KeyUsage { flags: 98 };
     assert!(rt; usage.non_repudiation() && usage.key_cert_sign() && usage.crl_sign());
@@ -66,8 +61,7 @@ fn flags(rt: HostRuntime) -> Result<(), Fail> {
             || usage.decipher_only())
     );
     let (_, kind) = NSCertType::from_der(rt.alloc(), b"\x03\x02\x05\xA0")?;
-    let text = format!(in rt.alloc(); "{kind}")?;
-    assert_eq!(rt; text.as_str(), "SSL CLient, S/MIME");
+    assert!(rt; shows(rt.alloc(), &kind, "SSL CLient, S/MIME")?);
     assert!(rt; kind.ssl_client() && kind.smime() && !kind.ssl_server() && !kind.ssl_ca());
     Ok(())
 }
@@ -76,9 +70,10 @@ fn flags(rt: HostRuntime) -> Result<(), Fail> {
 fn purposes(rt: HostRuntime) -> Result<(), Fail> {
     let twice =
         b"\x30\x14\x06\x08\x2B\x06\x01\x05\x05\x07\x03\x01\x06\x08\x2B\x06\x01\x05\x05\x07\x03\x01";
-    let (_, usage) = ExtendedKeyUsage::from_der(rt.alloc(), twice)?;
+    let usage = whole(rt.alloc(), ExtendedKeyUsage::from_der(rt.alloc(), twice))?;
     assert!(rt; usage.server_auth && !usage.client_auth && !usage.any && usage.other.is_empty());
-    let (_, usage) = ExtendedKeyUsage::from_der(rt.alloc(), b"\x30\x03\x06\x01\x2A")?;
+    let read = ExtendedKeyUsage::from_der(rt.alloc(), b"\x30\x03\x06\x01\x2A");
+    let usage = whole(rt.alloc(), read)?;
     assert!(rt; !usage.server_auth);
     assert!(rt; matches!(usage.other.as_slice(), [id] if id.as_bytes() == b"\x2A".as_slice()));
     Ok(())
@@ -87,11 +82,11 @@ fn purposes(rt: HostRuntime) -> Result<(), Fail> {
 #[test]
 fn policies(rt: HostRuntime) -> Result<(), Fail> {
     let one = b"\x30\x08\x06\x02\x2A\x03\x06\x02\x2A\x04";
-    let mapping = whole(PolicyMapping::from_der(rt.alloc(), one))?;
+    let mapping = *whole(rt.alloc(), PolicyMapping::from_der(rt.alloc(), one))?;
     assert_eq!(rt; mapping.issuer_domain_policy, Oid::new(b"\x2A\x03"));
     assert_eq!(rt; mapping.subject_domain_policy, Oid::new(b"\x2A\x04"));
     let list = b"\x30\x0A\x30\x08\x06\x02\x2A\x03\x06\x02\x2A\x04";
-    let (_, mappings) = PolicyMappings::from_der(rt.alloc(), list)?;
+    let mappings = whole(rt.alloc(), PolicyMappings::from_der(rt.alloc(), list))?;
     assert!(rt; matches!(mappings.mappings.as_slice(), [only] if *only == mapping));
     let (_, inhibit) = InhibitAnyPolicy::from_der(rt.alloc(), b"\x02\x01\x02")?;
     assert_eq!(rt; inhibit.skip_certs, 2);
@@ -101,13 +96,14 @@ fn policies(rt: HostRuntime) -> Result<(), Fail> {
 #[test]
 fn name_constraints(rt: HostRuntime) -> Result<(), Fail> {
     let bytes = b"\x30\x0A\xA1\x08\x30\x06\x82\x04a.bc";
-    let (_, read) = NameConstraints::from_der(rt.alloc(), bytes)?;
+    let read = whole(rt.alloc(), NameConstraints::from_der(rt.alloc(), bytes))?;
     assert!(rt; read.permitted_subtrees.is_none());
     assert!(rt;
         matches!(&read.excluded_subtrees, Some(list)
             if matches!(list.as_slice(), [one] if matches!(one.base, GeneralName::DNSName("a.bc"))))
     );
-    let (_, read) = NameConstraints::from_der(rt.alloc(), b"\x30\x02\xA0\x00")?;
+    let none = NameConstraints::from_der(rt.alloc(), b"\x30\x02\xA0\x00");
+    let read = whole(rt.alloc(), none)?;
     assert!(rt; read.permitted_subtrees.is_none() && read.excluded_subtrees.is_none());
     Ok(())
 }
@@ -118,15 +114,15 @@ fn alternative_names(rt: HostRuntime) -> Result<(), Fail> {
         (b"\x82\x01\xFF".as_slice(), "Invalid(tag=2, data=ff)"),
         (b"\x87\x04\x7F\x00\x00\x01", "IPAddress(7f:00:00:01)"),
     ] {
-        let (_, name) = GeneralName::from_der(rt.alloc(), bytes)?;
-        assert_eq!(rt; format!(in rt.alloc(); "{name}")?.as_str(), text);
+        let name = whole(rt.alloc(), GeneralName::from_der(rt.alloc(), bytes))?;
+        assert!(rt; shows(rt.alloc(), name, text)?, "at {text}");
     }
     let read = GeneralName::from_der(rt.alloc(), b"\x02\x01\x00");
-    assert!(rt; matches!(read, Err(Err::Error(e)) if e == TAG));
+    assert_eq!(rt; read.err(), Some(Err::Error(TAG)));
     let read = SubjectAlternativeName::from_der(rt.alloc(), b"\x30\x02\x02\x00");
-    assert!(rt; matches!(read, Err(Err::Failure(e)) if e == TAG));
+    assert_eq!(rt; read.err(), Some(Err::Failure(TAG)));
     let read = SubjectAlternativeName::from_der(rt.alloc(), b"\x30\x02\x82\x05");
-    assert!(rt; matches!(read, Err(Err::Error(e)) if e == TRAILING));
+    assert_eq!(rt; read.err(), Some(Err::Error(TRAILING)));
     Ok(())
 }
 
@@ -137,7 +133,8 @@ fn distribution_points(rt: HostRuntime) -> Result<(), Fail> {
         b"\x30\x0C\x30\x0A\xA0\x08\xA0\x06\x86\x04h://",
         b"\x30\x0C\x30\x0A\xA0\x08\xA0\x00\x86\x04h://",
     ] {
-        let (_, points) = CRLDistributionPoints::from_der(rt.alloc(), bytes)?;
+        let read = CRLDistributionPoints::from_der(rt.alloc(), bytes);
+        let points = whole(rt.alloc(), read)?;
         let [point] = points.points.as_slice() else {
             return Err(Fail::from("not one point"));
         };
@@ -147,7 +144,8 @@ fn distribution_points(rt: HostRuntime) -> Result<(), Fail> {
         );
     }
     let bytes = b"\x30\x07\x30\x05\x81\x03\x07\x60\x80";
-    let (_, points) = CRLDistributionPoints::from_der(rt.alloc(), bytes)?;
+    let read = CRLDistributionPoints::from_der(rt.alloc(), bytes);
+    let points = whole(rt.alloc(), read)?;
     let [point] = points.points.as_slice() else {
         return Err(Fail::from("not one point"));
     };
@@ -155,9 +153,8 @@ fn distribution_points(rt: HostRuntime) -> Result<(), Fail> {
     assert!(rt; point.distribution_point.is_none());
     assert_eq!(rt; reasons.flags, 262);
     assert!(rt; reasons.key_compromise() && reasons.ca_compromise() && reasons.aa_compromise());
-    let text = format!(in rt.alloc(); "{reasons}")?;
     let words = "Key Compromise, CA Compromise, AA Compromise";
-    assert_eq!(rt; text.as_str(), words);
+    assert!(rt; shows(rt.alloc(), reasons, words)?);
     Ok(())
 }
 
@@ -171,12 +168,13 @@ fn are_both(list: &[AccessDescription<'_>]) -> bool {
 
 #[test]
 fn authorities(rt: HostRuntime) -> Result<(), Fail> {
-    let (_, key) = AuthorityKeyIdentifier::from_der(rt.alloc(), b"\x30\x03\x80\x01\xAA")?;
+    let read = AuthorityKeyIdentifier::from_der(rt.alloc(), b"\x30\x03\x80\x01\xAA");
+    let key = whole(rt.alloc(), read)?;
     assert!(rt; matches!(&key.key_identifier, Some(id) if id.0 == b"\xAA".as_slice()));
     assert!(rt; key.authority_cert_issuer.is_none() && key.authority_cert_serial.is_none());
     let bytes = b"\x30\x12\x30\x07\x06\x01\x2A\x86\x02aa\x30\x07\x06\x01\x2A\x86\x02bb";
-    let (_, access) = AuthorityInfoAccess::from_der(rt.alloc(), bytes)?;
-    let (_, other) = SubjectInfoAccess::from_der(rt.alloc(), bytes)?;
+    let access = whole(rt.alloc(), AuthorityInfoAccess::from_der(rt.alloc(), bytes))?;
+    let other = whole(rt.alloc(), SubjectInfoAccess::from_der(rt.alloc(), bytes))?;
     assert!(rt; are_both(access.accessdescs.as_slice()));
     assert!(rt; are_both(other.accessdescs.as_slice()));
     Ok(())
@@ -194,7 +192,8 @@ fn timestamps(rt: HostRuntime) -> Result<(), Fail> {
         (b"\x04\x36\x00\x34", b"\x00\x01\x00"),
     ] {
         let bytes = joined(rt.alloc(), &[front, ENTRY, behind])?;
-        let list = whole(parse_ct_signed_certificate_timestamp_list(rt.alloc(), &bytes))?;
+        let read = parse_ct_signed_certificate_timestamp_list(rt.alloc(), bytes);
+        let list = whole(rt.alloc(), read)?;
         assert!(rt;
             matches!(list.as_slice(), [one]
                 if one.timestamp == 0

@@ -1,4 +1,5 @@
 use super::{CriticalExtensions, SerialLength};
+use crate::tests::kept;
 use std::test::Fail;
 use x509_parser::parse_x509_certificate;
 use x509_parser::validate::{
@@ -15,14 +16,15 @@ const LONG: &[u8] = b"\
 
 #[test]
 fn a_chain_and_a_walk(rt: HostRuntime) -> Result<(), Fail> {
-    let (rest, certificate) = parse_x509_certificate(rt.alloc(), LONG)?;
+    let (rest, certificate) = kept(rt.alloc(), parse_x509_certificate(rt.alloc(), LONG)?)?;
     assert!(rt; rest.is_empty());
     let checks = chain(
         X509StructureValidator,
         chain(X509CertificateValidator, SerialLength),
     );
     let mut logger = VecLogger::new(rt.alloc());
-    let sound = checks.validate(rt.alloc(), &certificate, &mut logger)?;
+    let sound = checks.validate(rt.alloc(), certificate, &mut logger)?;
+    let logger = kept(rt.alloc(), logger)?;
     assert!(rt; sound && logger.errors().is_empty());
     let [key, serial] = logger.warnings() else {
         return Err(Fail::from("not two warnings"));

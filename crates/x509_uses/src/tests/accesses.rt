@@ -1,5 +1,6 @@
 //! The locations of an authority, lent under their methods.
 
+use super::kept;
 use std::collections::HashMap;
 use std::hash::{BuildHasherDefault, FoldHasher};
 use std::test::Fail;
@@ -22,8 +23,11 @@ fn is_uri(name: &GeneralName<'_>, text: &str) -> bool {
 
 #[test]
 fn lent_locations_of_an_issuer(rt: HostRuntime) -> Result<(), Fail> {
-    let (_, read) = AuthorityInfoAccess::from_der(rt.alloc(), THREE)?;
-    let map = read.as_hashmap(rt.alloc(), Hasher::new())?;
+    let (_, read) = kept(
+        rt.alloc(),
+        AuthorityInfoAccess::from_der(rt.alloc(), THREE)?,
+    )?;
+    let map = kept(rt.alloc(), read.as_hashmap(rt.alloc(), Hasher::new())?)?;
     assert_eq!(rt; map.len(), 2);
     let group = map.get(&Oid::new(METHOD)).ok_or("no group")?;
     assert_eq!(rt; group.len(), 2);
@@ -39,8 +43,8 @@ fn lent_locations_of_an_issuer(rt: HostRuntime) -> Result<(), Fail> {
 
 #[test]
 fn lent_locations_of_a_subject(rt: HostRuntime) -> Result<(), Fail> {
-    let (_, read) = SubjectInfoAccess::from_der(rt.alloc(), THREE)?;
-    let map = read.as_hashmap(rt.alloc(), Hasher::new())?;
+    let (_, read) = kept(rt.alloc(), SubjectInfoAccess::from_der(rt.alloc(), THREE)?)?;
+    let map = kept(rt.alloc(), read.as_hashmap(rt.alloc(), Hasher::new())?)?;
     assert_eq!(rt; map.len(), 2);
     let group = map.get(&Oid::new(METHOD)).ok_or("no group")?;
     assert_eq!(rt; group.len(), 2);

@@ -1,5 +1,6 @@
 //! The forms that users write, each once.
 
+use super::kept;
 use crate::{
     Next, count_revoked, days_left, days_valid, entry_of, first_identifier, has_strong_key, hosts,
     is_another_structure, is_known, is_modest, next_after,
@@ -41,39 +42,36 @@ const ASKS_WITH_PASSWORD: &[u8] = b"\
 
 #[test]
 fn of_a_certificate(rt: HostRuntime) -> Result<(), Fail> {
-    let (_, certificate) = parse_x509_certificate(rt.alloc(), HOSTS)?;
-    let hosts = hosts(rt.alloc(), &certificate)?;
+    let (_, certificate) = kept(rt.alloc(), parse_x509_certificate(rt.alloc(), HOSTS)?)?;
+    let hosts = kept(rt.alloc(), hosts(rt.alloc(), certificate)?)?;
     let [first, second] = hosts.as_slice() else {
         return Err(Fail::from("not two hosts"));
     };
     assert_eq!(rt; *first, "a.example");
     assert_eq!(rt; *second, "b.example");
-    assert!(rt; has_strong_key(&certificate));
-    assert_eq!(rt; days_valid(&certificate), Some(29_219));
-    assert_eq!(rt; days_left(&certificate, 2_524_607_999 - 86_400), Some(1));
-    assert_eq!(rt; days_left(&certificate, 2_524_607_999), Some(0));
-    assert_eq!(rt; days_left(&certificate, 2_524_608_000), Some(-1));
+    assert!(rt; has_strong_key(certificate));
+    assert_eq!(rt; days_valid(certificate), Some(29_219));
+    assert_eq!(rt; days_left(certificate, 2_524_607_999 - 86_400), Some(1));
+    assert_eq!(rt; days_left(certificate, 2_524_607_999), Some(0));
+    assert_eq!(rt; days_left(certificate, 2_524_608_000), Some(-1));
     assert_eq!(rt;
-        days_left(&certificate, 2_524_607_999 + 2 * 86_400),
+        days_left(certificate, 2_524_607_999 + 2 * 86_400),
         Some(-2)
     );
-    assert_eq!(rt; days_left(&certificate, i64::MIN), None);
+    assert_eq!(rt; days_left(certificate, i64::MIN), None);
     Ok(())
 }
 
 #[test]
 fn of_a_list(rt: HostRuntime) -> Result<(), Fail> {
-    let (_, list) = match parse_x509_crl(rt.alloc(), LIST) {
-        Ok(read) => read,
-        Err(_) => return Err(Fail::from("no list")),
-    };
+    let (_, list) = kept(rt.alloc(), parse_x509_crl(rt.alloc(), LIST)?)?;
     let (there, away) = (UnsignedBytes::new(b"\xA1"), UnsignedBytes::new(b"\x08"));
     assert!(rt;
-        matches!(entry_of(&list, &there), Some(entry) if entry.raw_serial() == b"\x00\xA1".as_slice())
+        matches!(entry_of(list, &there), Some(entry) if entry.raw_serial() == b"\x00\xA1".as_slice())
     );
-    assert!(rt; entry_of(&list, &away).is_none());
+    assert!(rt; entry_of(list, &away).is_none());
     assert_eq!(rt;
-        count_revoked(&list, &[there, away, UnsignedBytes::new(b"\x07")])?,
+        count_revoked(list, &[there, away, UnsignedBytes::new(b"\x07")])?,
         2
     );
     Ok(())
@@ -81,23 +79,24 @@ fn of_a_list(rt: HostRuntime) -> Result<(), Fail> {
 
 #[test]
 fn of_requests(rt: HostRuntime) -> Result<(), Fail> {
-    let (_, asks) = X509CertificationRequest::from_der(rt.alloc(), ASKS)?;
-    assert!(rt; is_modest(&asks));
-    let (_, with_password) = X509CertificationRequest::from_der(rt.alloc(), ASKS_WITH_PASSWORD)?;
-    assert!(rt; !is_modest(&with_password));
+    let asks = X509CertificationRequest::from_der(rt.alloc(), ASKS)?;
+    let (_, asks) = kept(rt.alloc(), asks)?;
+    assert!(rt; is_modest(asks));
+    let asks = X509CertificationRequest::from_der(rt.alloc(), ASKS_WITH_PASSWORD)?;
+    let (_, with_password) = kept(rt.alloc(), asks)?;
+    assert!(rt; !is_modest(with_password));
     Ok(())
 }
 
 #[test]
 fn of_refusals(rt: HostRuntime) -> Result<(), Fail> {
-    let Err(cut) = parse_x509_certificate(rt.alloc(), &HOSTS[..186]) else {
-        return Err(Fail::from("a certificate cut short"));
-    };
+    let read = parse_x509_certificate(rt.alloc(), &HOSTS[..186]);
+    let cut = read.err().ok_or("a certificate cut short")?;
     assert!(rt; matches!(next_after(&cut), Next::AwaitMore));
     assert!(rt; !is_another_structure(&cut));
-    let Err(another) = parse_x509_certificate(rt.alloc(), LIST) else {
-        return Err(Fail::from("a list"));
-    };
+    let another = parse_x509_certificate(rt.alloc(), LIST)
+        .err()
+        .ok_or("a list")?;
     assert!(rt; matches!(next_after(&another), Next::Refuse));
     assert!(rt; is_another_structure(&another));
     Ok(())
@@ -114,9 +113,9 @@ fn of_an_element(rt: HostRuntime) -> Result<(), Fail> {
 
 #[test]
 fn of_octets_that_live_shorter(rt: HostRuntime) -> Result<(), Fail> {
-    let registry = oid_registry(rt.alloc())?;
-    let octets = vec![in rt.alloc(); 0x55u8, 0x04, 0x03]?;
-    assert!(rt; is_known(&registry, octets.as_slice()));
-    assert!(rt; !is_known(&registry, &octets[..2]));
+    let registry = kept(rt.alloc(), oid_registry(rt.alloc())?)?;
+    let octets = [0x55u8, 0x04, 0x03];
+    assert!(rt; is_known(registry, octets.as_slice()));
+    assert!(rt; !is_known(registry, &octets[..2]));
     Ok(())
 }

@@ -1,4 +1,5 @@
 use super::{Quiet, VisitCount, walk_list_quietly, walk_quietly};
+use crate::tests::kept;
 use std::test::Fail;
 use x509_parser::visitor::{WalkCertificate, WalkRevocationList};
 use x509_parser::{parse_x509_certificate, parse_x509_crl};
@@ -14,9 +15,9 @@ const LIST: &[u8] =
 
 #[test]
 fn over_a_certificate(rt: HostRuntime) -> Result<(), Fail> {
-    let (_, certificate) = parse_x509_certificate(rt.alloc(), CERTIFICATE)?;
+    let (_, certificate) = kept(rt.alloc(), parse_x509_certificate(rt.alloc(), CERTIFICATE)?)?;
     let mut quiet = Quiet { state: 7 };
-    assert_eq!(rt; walk_quietly(&mut quiet, &certificate), Ok(()));
+    assert_eq!(rt; walk_quietly(&mut quiet, certificate), Ok(()));
     assert_eq!(rt; quiet.state, 7);
     let mut visits = VisitCount { count: 0 };
     certificate.walk(&mut visits)?;
@@ -28,9 +29,9 @@ fn over_a_certificate(rt: HostRuntime) -> Result<(), Fail> {
 
 #[test]
 fn over_a_list(rt: HostRuntime) -> Result<(), Fail> {
-    let (_, list) = parse_x509_crl(rt.alloc(), LIST)?;
+    let (_, list) = kept(rt.alloc(), parse_x509_crl(rt.alloc(), LIST)?)?;
     let mut quiet = Quiet { state: 7 };
-    assert_eq!(rt; walk_list_quietly(&mut quiet, &list), Ok(()));
+    assert_eq!(rt; walk_list_quietly(&mut quiet, list), Ok(()));
     assert_eq!(rt; quiet.state, 7);
     let mut visits = VisitCount { count: 0 };
     list.walk(&mut visits)?;

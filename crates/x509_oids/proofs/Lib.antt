@@ -1,0 +1,5 @@
+pub mod Numerals
+pub mod Octets
+pub mod Parts
+pub mod Decoded
+pub mod Texts

@@ -1,0 +1,3 @@
+pub mod Arcs
+pub mod Refusals
+pub mod Parsing
