@@ -1,1 +1,5 @@
 pub mod Texts
+pub mod Told
+pub mod Objects
+pub mod Labels
+pub mod Files

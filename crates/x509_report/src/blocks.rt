@@ -1,5 +1,12 @@
 //! The objects of PEM blocks (RFC 7468).
 
+ghost use Rattle.std.specs.Prelude.{◌≡◌, IfOk, option_map};
+ghost use Rattle.x509_report_objects.specs.Attempts.{found_of, wishes_of};
+ghost use Rattle.x509_report.specs.Files.{block_told, kind_told, symbols_told, task_of, whole_told};
+ghost use Rattle.x509_report.specs.Labels.{kind_in, kind_labelled, label_text, only, wants_any};
+ghost use Rattle.x509_report.specs.Objects.{asks_of};
+ghost use Rattle.x509_report.specs.Told.{Tells};
+
 use crate::options::Asked;
 use crate::printer::Printer;
 use crate::reports::{report_failed, report_object, report_skipped};
@@ -12,8 +19,21 @@ use std::str;
 use x509_report_lines::Block;
 use x509_report_objects::{Found, Kind, Wishes};
 
+/// A label, where it is text.
+#[tactic(auto, using(crate::proofs::Labels::labels))]
+fn label_text(label: &[u8]) -> Option<&str>
+    ensures { option_map (λ s. s.now) result ≡ label_text label.now }
+{
+    match str::from_utf8(label) {
+        Ok(label) => Some(label),
+        Err(_) => None,
+    }
+}
+
 /// What a block with this label holds.
-fn kind_of(label: &str) -> Option<Kind> {
+fn kind_of(label: &str) -> Option<Kind>
+    ensures { result ≡ kind_labelled label.now }
+{
     match label {
         "CERTIFICATE" | "X509 CERTIFICATE" | "TRUSTED CERTIFICATE" => Some(Kind::Certificate),
         "X509 CRL" => Some(Kind::List),
@@ -22,8 +42,20 @@ fn kind_of(label: &str) -> Option<Kind> {
     }
 }
 
+/// What a block with this label holds, where it has one that is text.
+fn kind_in(label: Option<&str>) -> Option<Kind>
+    ensures { result ≡ kind_in (option_map (λ s. s.now) label.entry) }
+{
+    match label {
+        Some(label) => kind_of(label),
+        None => None,
+    }
+}
+
 /// The wishes, of which only objects of this kind are left.
-fn only(wishes: &Wishes, kind: Kind) -> Wishes {
+fn only(wishes: &Wishes, kind: Kind) -> Wishes
+    ensures { wishes_of result ≡ only (wishes_of wishes.now) kind }
+{
     Wishes {
         certificates: wishes.certificates && kind == Kind::Certificate,
         lists: wishes.lists && kind == Kind::List,
@@ -34,33 +66,83 @@ fn only(wishes: &Wishes, kind: Kind) -> Wishes {
 }
 
 /// Whether an object of any kind is wanted.
-fn wants_any(wishes: &Wishes) -> bool {
+fn wants_any(wishes: &Wishes) -> bool
+    ensures { result ≡ wants_any (wishes_of wishes.now) }
+{
     wishes.certificates || wishes.lists || wishes.requests
 }
 
-/// The object whose base64 text this is.
+/// The object whose base64 text this is. Tells whether it was taken.
 fn report_symbols<W: Write>(
     alloc: Global,
     printer: &mut Printer<W>,
     asked: &Asked,
     place: &Found<'_>,
     symbols: &[u8],
-) -> Result<bool, Stop> {
+) -> Result<bool, Stop>
+    ensures lines { Tells result (W.contents printer.old.out) (W.contents printer.new.out) (symbols_told (asks_of asked.now) printer.old.form (found_of place.now) symbols.now).lines }
+    ensures taken { IfOk result (λ taken. taken ≡ (symbols_told (asks_of asked.now) printer.old.form (found_of place.now) symbols.now).taken) }
+    ensures form { printer.new.form ≡ printer.old.form }
+{
     match STANDARD.decode(alloc, symbols) {
         Ok(octets) => report_object(alloc, printer, asked, place, &octets),
         Err(DecodeAllocError::OutOfMemory) => Err(Stop::Memory),
-        Err(_) => {
-            report_failed(
-                alloc,
-                printer,
-                asked,
-                place,
-                symbols,
-                "base64",
-                "not base64",
-            )?;
-            Ok(false)
+        Err(_) => report_failed(
+            alloc,
+            printer,
+            asked,
+            place,
+            symbols,
+            "base64",
+            "not base64",
+        ),
+    }
+}
+
+/// The object of a block, where one of its kind is wanted. Tells whether it was taken, or passed over.
+fn report_wanted<W: Write>(
+    alloc: Global,
+    printer: &mut Printer<W>,
+    asked: &Asked,
+    place: &Found<'_>,
+    block: &Block<'_>,
+) -> Result<bool, Stop>
+    ensures lines { Tells result (W.contents printer.old.out) (W.contents printer.new.out) (whole_told (asks_of asked.now) printer.old.form (found_of place.now) block.now).lines }
+    ensures taken { IfOk result (λ taken. taken ≡ (whole_told (asks_of asked.now) printer.old.form (found_of place.now) block.now).taken) }
+    ensures form { printer.new.form ≡ printer.old.form }
+{
+    let symbols = block.symbols();
+    if !wants_any(&asked.wishes) {
+        report_skipped(alloc, printer, asked, place, symbols)
+    } else if block.is_whole() {
+        report_symbols(alloc, printer, asked, place, symbols)
+    } else {
+        report_failed(alloc, printer, asked, place, symbols, "pem", "no END line")
+    }
+}
+
+/// The line of a block that holds this. One that holds no object is told and passed over. Tells whether it was taken, or passed over.
+fn report_kind<W: Write>(
+    alloc: Global,
+    printer: &mut Printer<W>,
+    asked: &Asked,
+    place: &Found<'_>,
+    block: &Block<'_>,
+    kind: Option<Kind>,
+) -> Result<bool, Stop>
+    ensures lines { Tells result (W.contents printer.old.out) (W.contents printer.new.out) (kind_told (asks_of asked.now) printer.old.form (found_of place.now) block.now kind).lines }
+    ensures taken { IfOk result (λ taken. taken ≡ (kind_told (asks_of asked.now) printer.old.form (found_of place.now) block.now kind).taken) }
+    ensures form { printer.new.form ≡ printer.old.form }
+{
+    match kind {
+        Some(kind) => {
+            let asked = Asked {
+                wishes: only(&asked.wishes, kind),
+                entries: asked.entries,
+            };
+            report_wanted(alloc, printer, &asked, place, block)
         }
+        None => report_skipped(alloc, printer, asked, place, block.symbols()),
     }
 }
 
@@ -71,43 +153,20 @@ pub fn report_block<W: Write>(
     printer: &mut Printer<W>,
     asked: &Asked,
     file: &str,
-    index: u64,
+    index: usize,
     block: &Block<'_>,
-) -> Result<bool, Stop> {
-    let label = str::from_utf8(block.label()).ok();
+) -> Result<bool, Stop>
+    ensures lines { Tells result (W.contents printer.old.out) (W.contents printer.new.out) (block_told (task_of asked.now printer.old.form file.now) index block.now).lines }
+    ensures taken { IfOk result (λ taken. taken ≡ (block_told (task_of asked.now printer.old.form file.now) index block.now).taken) }
+    ensures form { printer.new.form ≡ printer.old.form }
+{
+    let label = label_text(block.label());
     let place = Found {
         file,
-        index,
+        index: index as u64,
         offset: block.at(),
         label,
     };
-    let symbols = block.symbols();
-    let wishes = match kind_of(label.unwrap_or("")) {
-        Some(kind) => only(&asked.wishes, kind),
-        None => {
-            report_skipped(alloc, printer, asked, &place, symbols)?;
-            return Ok(true);
-        }
-    };
-    let asked = Asked {
-        wishes,
-        entries: asked.entries,
-    };
-    if !wants_any(&wishes) {
-        report_skipped(alloc, printer, &asked, &place, symbols)?;
-        Ok(true)
-    } else if block.is_whole() {
-        report_symbols(alloc, printer, &asked, &place, symbols)
-    } else {
-        report_failed(
-            alloc,
-            printer,
-            &asked,
-            &place,
-            symbols,
-            "pem",
-            "no END line",
-        )?;
-        Ok(false)
-    }
+    let kind = kind_in(label);
+    report_kind(alloc, printer, asked, &place, block, kind)
 }

@@ -6,17 +6,20 @@ mod blocks;
 mod files;
 mod options;
 mod printer;
+mod progress;
 mod reports;
 mod stop;
 
-use crate::files::report_file;
+use crate::files::{read_all, report_file};
 use crate::options::{Options, parse_options};
 use crate::printer::Printer;
+use crate::progress::Progress;
 use crate::stop::Stop;
 use std::alloc::Global;
-use std::io::{BufWriter, Read, Write};
+use std::fs::File;
+use std::io::BufWriter;
 use std::process::ExitCode;
-use std::{env, fs, io};
+use std::{env, io};
 
 /// Every object was taken.
 const TAKEN: u8 = 0;
@@ -28,18 +31,17 @@ const STOPPED: u8 = 3;
 /// All octets of a file; `-` is standard input.
 fn read(rt: &HostRuntime, file: &str) -> io::Result<Vec<u8>> {
     if file == "-" {
-        let mut octets = Vec::new(rt.alloc());
-        rt.reader().read_to_end(&mut octets)?;
-        Ok(octets)
+        read_all(rt.alloc(), &mut rt.reader())
     } else {
-        fs::read(rt, file)
+        read_all(rt.alloc(), &mut File::open(rt, file)?)
     }
 }
 
 /// Reports the objects of all files, one file after another.
 fn report_files(rt: &HostRuntime, options: &Options<'_>) -> io::Result<u8> {
     let alloc: Global = rt.alloc();
-    let mut printer = Printer::new(alloc, options.form, BufWriter::new(alloc, io::writer(rt))?);
+    let out = BufWriter::new(alloc, Progress::new(rt, io::writer(rt)))?;
+    let mut printer = Printer::new(alloc, options.form, out);
     let mut status = TAKEN;
     for file in &options.files {
         let octets = match read(rt, file) {

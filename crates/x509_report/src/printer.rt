@@ -1,11 +1,11 @@
 //! Where lines are written, and in what form.
 
-ghost use Rattle.std.specs.Prelude.{◌≡◌, [], IfOk, OnOk, string_bytes};
+ghost use Rattle.std.specs.Prelude.{◌≡◌, ◌∷◌, [], IfOk, string_bytes};
 ghost use Rattle.std.specs.Str.{IsUtf8};
-ghost use Rattle.std.specs.Io.KnownBytes.{Appends};
 ghost use Rattle.json.specs.Lex.{tokens};
 ghost use Rattle.x509_report_lines.specs.Lines.{text_of};
 ghost use Rattle.x509_report.specs.Texts.{line_text};
+ghost use Rattle.x509_report.specs.Told.{Tells};
 
 use crate::options::Form;
 use crate::stop::Stop;
@@ -56,8 +56,9 @@ impl<W: Write> Printer<W> {
     }
 
     /// Writes a line.
+    #[tactic(auto, using(crate::proofs::Leads::writing))]
     pub fn put(&mut self, alloc: Global, line: Line) -> Result<(), Stop>
-        ensures text { OnOk result (Appends (W.contents self.old.out) (W.contents self.new.out) (line_text self.old.form line)) }
+        ensures lines { Tells result (W.contents self.old.out) (W.contents self.new.out) (line_text self.old.form line ∷ []) }
         ensures form { self.new.form ≡ self.old.form }
     {
         let mut text = line.into_text();

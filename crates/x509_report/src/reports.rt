@@ -1,12 +1,13 @@
 //! The lines of an object.
 
-ghost use Rattle.std.specs.Prelude.{◌≡◌, IfOk, OnOk};
-ghost use Rattle.std.specs.Io.KnownBytes.{Appends};
+ghost use Rattle.std.specs.Prelude.{◌≡◌, ◌∷◌, [], false, true, IfOk, map};
 ghost use Rattle.x509_lists.specs.RevokedCertificate.{revoked_of};
 ghost use Rattle.x509_report_objects.specs.Attempts.{found_of, wishes_of};
 ghost use Rattle.x509_report_objects.specs.Lists.{entry_report};
 ghost use Rattle.x509_report_objects.specs.Objects.{failed_report, object_told, skipped_report};
+ghost use Rattle.x509_report.specs.Objects.{asks_of, entry_lines, fingerprint_of, lines_behind, lines_of_object, list_lines};
 ghost use Rattle.x509_report.specs.Texts.{said};
+ghost use Rattle.x509_report.specs.Told.{Tells, one};
 
 use crate::options::Asked;
 use crate::printer::Printer;
@@ -14,7 +15,7 @@ use crate::stop::Stop;
 use sha2::{Digest, Sha256};
 use std::alloc::Global;
 use std::io::Write;
-use x509_lists::{RevokedCertificate, parse_x509_crl};
+use x509_lists::{RevokedCertificate, parse_x509_crl_marked};
 use x509_report_objects::{
     Found, Kind, Wishes, entry_line, failed_line, object_line, skipped_line,
 };
@@ -28,7 +29,7 @@ fn report_entry<W: Write>(
     number: u64,
     entry: &RevokedCertificate<'_>,
 ) -> Result<(), Stop>
-    ensures text { OnOk result (Appends (W.contents printer.old.out) (W.contents printer.new.out) (said printer.old.form (entry_report (found_of place.now) fingerprint.now number (revoked_of entry.now)))) }
+    ensures lines { Tells result (W.contents printer.old.out) (W.contents printer.new.out) ((said printer.old.form (entry_report (found_of place.now) fingerprint.now number (revoked_of entry.now))) ∷ []) }
     ensures form { printer.new.form ≡ printer.old.form }
 {
     let mut line = printer.line(alloc);
@@ -43,13 +44,25 @@ fn report_each<W: Write>(
     place: &Found<'_>,
     fingerprint: &Option<[u8; 32]>,
     entries: &[RevokedCertificate<'_>],
-) -> Result<(), Stop> {
-    let mut number = 0_u64;
-    for entry in entries {
-        report_entry(alloc, printer, place, fingerprint, number, entry)?;
-        number = number.saturating_add(1);
+) -> Result<(), Stop>
+    ensures lines { Tells result (W.contents printer.old.out) (W.contents printer.new.out) (entry_lines printer.old.form (found_of place.now) fingerprint.now 0 (map revoked_of entries.now)) }
+    ensures form { printer.new.form ≡ printer.old.form }
+{
+    for (number, entry) in entries.iter().enumerate() {
+        report_entry(alloc, printer, place, fingerprint, number as u64, entry)?;
     }
     Ok(())
+}
+
+/// The SHA-256 fingerprint, where fingerprints are wanted.
+fn fingerprint(wanted: bool, octets: &[u8]) -> Option<[u8; 32]>
+    ensures { result ≡ fingerprint_of wanted octets.now }
+{
+    if wanted {
+        Some(Sha256::digest(octets))
+    } else {
+        None
+    }
 }
 
 /// A line for each entry of a list.
@@ -59,19 +72,43 @@ fn report_entries<W: Write>(
     fingerprints: bool,
     place: &Found<'_>,
     octets: &[u8],
-) -> Result<(), Stop> {
-    let fingerprint = if fingerprints {
-        Some(Sha256::digest(octets))
-    } else {
-        None
-    };
-    match parse_x509_crl(alloc, octets) {
-        Ok((_, list)) => {
+) -> Result<(), Stop>
+    ensures lines { Tells result (W.contents printer.old.out) (W.contents printer.new.out) (list_lines printer.old.form fingerprints (found_of place.now) octets.now) }
+    ensures form { printer.new.form ≡ printer.old.form }
+{
+    let fingerprint = fingerprint(fingerprints, octets);
+    match parse_x509_crl_marked(alloc, octets) {
+        Ok((_, list, _)) => {
             let entries = list.tbs_cert_list.revoked_certificates.as_slice();
             report_each(alloc, printer, place, &fingerprint, entries)
         }
-        Err(refusal) if refusal.is_out_of_memory() => Err(Stop::Memory),
-        Err(_) => Ok(()),
+        Err(refusal) => if refusal.is_out_of_memory() {
+            Err(Stop::Memory)
+        } else {
+            Ok(())
+        },
+    }
+}
+
+/// What stands behind the line of an object of this kind: where that is asked for, the lines of a list's entries.
+fn report_behind<W: Write>(
+    alloc: Global,
+    printer: &mut Printer<W>,
+    asked: &Asked,
+    place: &Found<'_>,
+    octets: &[u8],
+    kind: Option<Kind>,
+) -> Result<(), Stop>
+    ensures lines { Tells result (W.contents printer.old.out) (W.contents printer.new.out) (lines_behind (asks_of asked.now) printer.old.form (found_of place.now) octets.now kind) }
+    ensures form { printer.new.form ≡ printer.old.form }
+{
+    match kind {
+        Some(Kind::List) => if asked.entries {
+            report_entries(alloc, printer, asked.wishes.fingerprints, place, octets)
+        } else {
+            Ok(())
+        },
+        Some(Kind::Certificate) | Some(Kind::Request) | None => Ok(()),
     }
 }
 
@@ -84,7 +121,7 @@ fn report_line<W: Write>(
     octets: &[u8],
 ) -> Result<Option<Kind>, Stop>
     ensures kind { IfOk result (λ kind. kind ≡ (object_told (wishes_of wishes.now) (found_of place.now) octets.now).0) }
-    ensures text { OnOk result (Appends (W.contents printer.old.out) (W.contents printer.new.out) (said printer.old.form (object_told (wishes_of wishes.now) (found_of place.now) octets.now).1)) }
+    ensures lines { Tells result (W.contents printer.old.out) (W.contents printer.new.out) ((said printer.old.form (object_told (wishes_of wishes.now) (found_of place.now) octets.now).1) ∷ []) }
     ensures form { printer.new.form ≡ printer.old.form }
 {
     let mut line = printer.line(alloc);
@@ -100,15 +137,17 @@ pub fn report_object<W: Write>(
     asked: &Asked,
     place: &Found<'_>,
     octets: &[u8],
-) -> Result<bool, Stop> {
+) -> Result<bool, Stop>
+    ensures lines { Tells result (W.contents printer.old.out) (W.contents printer.new.out) (lines_of_object (asks_of asked.now) printer.old.form (found_of place.now) octets.now).lines }
+    ensures taken { IfOk result (λ taken. taken ≡ (lines_of_object (asks_of asked.now) printer.old.form (found_of place.now) octets.now).taken) }
+    ensures form { printer.new.form ≡ printer.old.form }
+{
     let kind = report_line(alloc, printer, &asked.wishes, place, octets)?;
-    if asked.entries && kind == Some(Kind::List) {
-        report_entries(alloc, printer, asked.wishes.fingerprints, place, octets)?;
-    }
+    report_behind(alloc, printer, asked, place, octets, kind)?;
     Ok(kind.is_some())
 }
 
-/// The line of octets that can't be read as objects, with what was tried and why it failed.
+/// The line of octets that can't be read as objects, with what was tried and why it failed: no object was taken.
 pub fn report_failed<W: Write>(
     alloc: Global,
     printer: &mut Printer<W>,
@@ -117,27 +156,31 @@ pub fn report_failed<W: Write>(
     octets: &[u8],
     kind: &str,
     word: &str,
-) -> Result<(), Stop>
-    ensures text { OnOk result (Appends (W.contents printer.old.out) (W.contents printer.new.out) (said printer.old.form (failed_report (wishes_of asked.now.wishes) (found_of place.now) octets.now kind.now word.now))) }
+) -> Result<bool, Stop>
+    ensures lines { Tells result (W.contents printer.old.out) (W.contents printer.new.out) (one printer.old.form false (failed_report (wishes_of asked.now.wishes) (found_of place.now) octets.now kind.now word.now)).lines }
+    ensures taken { IfOk result (λ taken. taken ≡ (one printer.old.form false (failed_report (wishes_of asked.now.wishes) (found_of place.now) octets.now kind.now word.now)).taken) }
     ensures form { printer.new.form ≡ printer.old.form }
 {
     let mut line = printer.line(alloc);
     failed_line(alloc, &mut line, &asked.wishes, place, octets, kind, word)?;
-    printer.put(alloc, line)
+    printer.put(alloc, line)?;
+    Ok(false)
 }
 
-/// The line of a block that holds none of the objects that are wanted.
+/// The line of a block that holds none of the objects that are wanted: none is refused.
 pub fn report_skipped<W: Write>(
     alloc: Global,
     printer: &mut Printer<W>,
     asked: &Asked,
     place: &Found<'_>,
     octets: &[u8],
-) -> Result<(), Stop>
-    ensures text { OnOk result (Appends (W.contents printer.old.out) (W.contents printer.new.out) (said printer.old.form (skipped_report (wishes_of asked.now.wishes) (found_of place.now) octets.now))) }
+) -> Result<bool, Stop>
+    ensures lines { Tells result (W.contents printer.old.out) (W.contents printer.new.out) (one printer.old.form true (skipped_report (wishes_of asked.now.wishes) (found_of place.now) octets.now)).lines }
+    ensures taken { IfOk result (λ taken. taken ≡ (one printer.old.form true (skipped_report (wishes_of asked.now.wishes) (found_of place.now) octets.now)).taken) }
     ensures form { printer.new.form ≡ printer.old.form }
 {
     let mut line = printer.line(alloc);
     skipped_line(alloc, &mut line, &asked.wishes, place, octets)?;
-    printer.put(alloc, line)
+    printer.put(alloc, line)?;
+    Ok(true)
 }

@@ -1,4 +1,5 @@
 pub mod Counted
 pub mod Found
 pub mod Shown
+pub mod Split
 pub mod Written

@@ -1,4 +1,5 @@
 pub mod Blocks
+pub mod Elements
 pub mod Escape
 pub mod Flags
 pub mod Lines

@@ -1,44 +1,12 @@
-//! The names of what is set.
+//! The words of what is set.
 
 ghost use Rattle.std.specs.Prelude.{◌≡◌, map};
 ghost use Rattle.json.specs.Json as json;
 ghost use Rattle.x509_report_lines.specs.Says.{SaysEach, SaysUnder, list_of};
-ghost use Rattle.x509_report_lines.specs.Flags.{set_names, set_words};
+ghost use Rattle.x509_report_lines.specs.Flags.{set_words};
 
 use crate::line::Line;
 use std::alloc::AllocError;
-
-/// The names of the bits that are set, one after another.
-#[tactic(auto, unfolding(crate::specs::Flags::set_names))]
-fn say_set_names(out: &mut Line, names: &[&str], flags: u16) -> Result<(), AllocError>
-    ensures { SaysEach result out.old out.new (λ s. json.string s) (set_names (map (λ s. s.now) names.now) flags) }
-{
-    let mut left = flags;
-    for name in names {
-        if left % 2 == 1 {
-            out.string(name)?;
-        }
-        left /= 2;
-    }
-    Ok(())
-}
-
-/// The names of the bits that are set, under a key.
-#[tactic(auto, using(crate::proofs::Written::list_written))]
-pub fn set_names_under(
-    out: &mut Line,
-    key: &str,
-    names: &[&str],
-    flags: u16,
-) -> Result<(), AllocError>
-    ensures { SaysUnder result out.old out.new key.now (list_of (λ s. json.string s) (set_names (map (λ s. s.now) names.now) flags)) }
-{
-    out.key(key)?;
-    out.begin_array()?;
-    say_set_names(out, names, flags)?;
-    out.end_array()?;
-    Ok(())
-}
 
 /// The words of what is set, one after another.
 #[tactic(auto, unfolding(crate::specs::Flags::set_words))]

@@ -11,6 +11,6 @@ mod page;
 pub use blocks::{Block, find_blocks};
 pub use elements::split_elements;
 pub use escape::push_escaped;
-pub use flags::{set_names_under, set_words_under};
+pub use flags::set_words_under;
 pub use line::Line;
 pub use page::lines_of_json;

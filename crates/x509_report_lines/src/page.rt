@@ -1,9 +1,10 @@
 //! Lines of the tokens of a JSON text.
 
-ghost use Rattle.std.specs.Prelude.{◌≡◌, ◌+◌, ◌-◌, ◌*◌, ◌++◌, ◌∷◌, [], OnOk, IfOk, replicate, string_bytes, codes, min};
+ghost use Rattle.std.specs.Prelude.{◌≡◌, ◌+◌, ◌-◌, ◌*◌, true, ◌++◌, ◌∷◌, [], OnOk, IfOk, replicate, string_bytes, codes, min};
+ghost use Rattle.std.specs.List.{list_all};
 ghost use Rattle.json.specs.Lex.{tokens};
 ghost use Rattle.json.specs.Reads.{token_of};
-ghost use Rattle.x509_report_lines.specs.Lines.{Page, step, page_of, text_of, lead, opening, indent, with_value, opened, closed, after_key, blank};
+ghost use Rattle.x509_report_lines.specs.Lines.{Page, step, page_of, text_of, lead, opening, indent, is_long_hex, is_hex_digit, break_before, broken, with_hex, with_text, with_value, opened, closed, after_key, blank};
 ghost use Rattle.x509_report_lines.specs.Escape.{escaped};
 
 use crate::escape::push_escaped;
@@ -31,6 +32,63 @@ fn push_indent(text: &mut String, depth: u8) -> Result<(), AllocError>
 {
     for _level in 0..depth {
         text.push_str("  ")?;
+    }
+    Ok(())
+}
+
+/// Whether an octet is a digit of lower-case hex.
+fn is_hex_digit(octet: u8) -> bool
+    ensures { result ≡ is_hex_digit octet }
+{
+    matches!(octet, b'0'..=b'9' | b'a'..=b'f')
+}
+
+/// Whether all octets are digits of lower-case hex.
+fn is_hex(octets: &[u8]) -> bool
+    ensures { result ≡ list_all is_hex_digit octets.now }
+{
+    for octet in octets {
+        if !is_hex_digit(*octet) {
+            return false;
+        }
+    }
+    true
+}
+
+/// Whether a text is hex alone, and longer than a line.
+fn is_long_hex(text: &str) -> bool
+    ensures { result ≡ is_long_hex text.now }
+{
+    text.len() > 64 && is_hex(text.as_bytes())
+}
+
+/// Begins a line at this depth, where this digit is the first of 64.
+fn push_break(text: &mut String, depth: u8, n: usize) -> Result<(), AllocError>
+    ensures { OnOk result (string_bytes text.new ≡ string_bytes text.old ++ break_before depth n) }
+{
+    if n % 64 == 0 {
+        text.push_str("\n")?;
+        push_indent(text, depth)?;
+    }
+    Ok(())
+}
+
+/// Adds a digit.
+fn push_digit(text: &mut String, digit: u8) -> Result<(), AllocError>
+    requires { is_hex_digit digit ≡ true }
+    ensures { OnOk result (string_bytes text.new ≡ string_bytes text.old ++ digit ∷ []) }
+{
+    text.push(char::from(digit))
+}
+
+/// Adds digits in lines of 64, at this depth.
+fn push_broken(text: &mut String, depth: u8, digits: &[u8]) -> Result<(), AllocError>
+    requires { list_all is_hex_digit digits.now ≡ true }
+    ensures { OnOk result (string_bytes text.new ≡ string_bytes text.old ++ broken depth 0 digits.now) }
+{
+    for (n, digit) in digits.iter().enumerate() {
+        push_break(text, depth, n)?;
+        push_digit(text, *digit)?;
     }
     Ok(())
 }
@@ -101,6 +159,30 @@ impl Lines {
         Ok(())
     }
 
+    fn hex(&mut self, digits: &str) -> Result<(), AllocError>
+        requires { list_all is_hex_digit digits.now ≡ true }
+        ensures { OnOk result (self.new ≡ with_hex self.old digits.now) }
+    {
+        if !self.keyed {
+            push_indent(&mut self.text, self.depth)?;
+            self.text.push_str("-")?;
+        }
+        push_broken(&mut self.text, deeper(self.depth), digits.as_bytes())?;
+        self.text.push_str("\n")?;
+        self.keyed = false;
+        Ok(())
+    }
+
+    fn text(&mut self, text: &str) -> Result<(), AllocError>
+        ensures { OnOk result (self.new ≡ with_text self.old text.now) }
+    {
+        if is_long_hex(text) {
+            self.hex(text)
+        } else {
+            self.escaped_value(text)
+        }
+    }
+
     #[tactic(auto, unfolding(crate::specs::Lines::step))]
     fn token(&mut self, token: Token<'_>) -> Result<(), AllocError>
         ensures { OnOk result (self.new ≡ step self.old (token_of token.entry)) }
@@ -117,7 +199,7 @@ impl Lines {
                 Ok(())
             }
             Token::Key(name) => self.key(name),
-            Token::String(text) => self.escaped_value(text),
+            Token::String(text) => self.text(text),
             Token::Number(text) => self.escaped_value(text),
             Token::Bool(b) => self.value(if b { "yes" } else { "no" }),
             Token::Null => self.value("none"),

@@ -1,4 +1,5 @@
 pub mod Places
+pub mod Errors
 pub mod Extensions
 pub mod Certificates
 pub mod Lists

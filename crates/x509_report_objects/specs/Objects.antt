@@ -16,8 +16,9 @@ use Rattle.x509_lists.specs.TbsCertList.{TbsList}
 use Rattle.x509_requests.specs.Request.{certification_request}
 use Rattle.x509_requests.specs.RequestInfo.{RequestInfo}
 use Rattle.x509_signed.specs.Signed.{Signed}
-use Rattle.x509_report_lines.specs.Says.{count, items_of, list_of, record_of}
+use Rattle.x509_report_lines.specs.Says.{count, items_of, list_of, optional, record_of}
 use Rattle.x509_report_objects.specs.Certificates.{certificate_members}
+use Rattle.x509_report_objects.specs.Errors.{refusal_name}
 use Rattle.x509_report_objects.specs.Lists.{list_members}
 use Rattle.x509_report_objects.specs.Places.{Found, Wishes, place_members, octets_members}
 use Rattle.x509_report_objects.specs.Requests.{request_members}
@@ -33,12 +34,12 @@ object_report kind w p octets plain rest members = record_of (
 -- ---- which report stands for an object: that of the first reader that takes it
 
 -- what was tried, and why it failed
-abbrev pub attempt_report : List ℕ → List ℕ → Json
-attempt_report kind word = record_of ((codes "kind", string kind) ∷ (codes "word", string word) ∷ [])
+abbrev pub attempt_report : List ℕ → Option (List ℕ) → List ℕ → Json
+attempt_report kind error word = record_of ((codes "kind", string kind) ∷ (codes "error", optional (λ s. string s) error) ∷ (codes "word", string word) ∷ [])
 
 -- a reader that was tried, and why it refuses
 abbrev pub tried_report : List ℕ × Refusal X509Error → Json
-tried_report r = attempt_report r.0 (refusal_word x509_word r.1)
+tried_report r = attempt_report r.0 (Some (refusal_name r.1)) (refusal_word x509_word r.1)
 
 abbrev pub tried_by : List ℕ → Option (Refusal X509Error) → List (List ℕ × Refusal X509Error)
 tried_by kind (Some e) = (kind, e) ∷ []
@@ -64,7 +65,7 @@ unfoldable pub failed_report : Wishes → Found → List ℕ → List ℕ → Li
 failed_report w p octets kind word = record_of (
     place_members (codes "refusal") p
     ++ octets_members w.fingerprints p octets
-    ++ (codes "tried", array (items_of (attempt_report kind word ∷ []))) ∷ [])
+    ++ (codes "tried", array (items_of (attempt_report kind None word ∷ []))) ∷ [])
 
 -- of a block that holds none of the objects that are wanted, by its label
 unfoldable pub skipped_report : Wishes → Found → List ℕ → Json

@@ -85,9 +85,7 @@ fn say_validator(
 ) -> Result<(), AllocError>
     ensures { Says result out.old out.new (validator_report (is_signed_part_sound (certificate_of certificate.now).tbs) (signed_part_messages (certificate_of certificate.now).tbs)) }
 {
-    let Ok((accepts, warnings, errors)) = certificate.validate_to_vec(alloc) else {
-        return Err(AllocError);
-    };
+    let (accepts, warnings, errors) = certificate.validate_to_vec(alloc)?;
     out.begin_object()?;
     truth_under(out, "accepts", accepts)?;
     texts_under(out, "warnings", &warnings)?;

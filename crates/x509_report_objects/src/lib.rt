@@ -2,6 +2,7 @@
 #![tactic(auto)]
 
 mod certificates;
+mod errors;
 mod extensions;
 mod lists;
 mod objects;

@@ -1,6 +1,6 @@
 //! The line of an object, whatever it is.
 
-ghost use Rattle.std.specs.Prelude.{◌≡◌, ◌∷◌, [], true, codes, length, IfOk, OnOk};
+ghost use Rattle.std.specs.Prelude.{◌≡◌, ◌∷◌, [], true, codes, length, None, IfOk, OnOk, option_map};
 ghost use Rattle.json.specs.Json.{array, string};
 ghost use Rattle.x509_certs.specs.Certificate.{certificate, certificate_of};
 ghost use Rattle.x509_lists.specs.CertificateList.{certificate_list, list_of};
@@ -14,6 +14,7 @@ ghost use Rattle.x509_report_objects.specs.Places.{octets_members, place_members
 ghost use Rattle.x509_report_objects.specs.Attempts.{Attempts, found_of, tried_of, wishes_of};
 
 use crate::certificates::certificate_members;
+use crate::errors::refusal_name;
 use crate::lists::list_members;
 use crate::requests::request_members;
 use std::alloc::{AllocError, Global};
@@ -307,11 +308,17 @@ fn try_request(
 }
 
 /// What was tried, and why it failed.
-fn say_attempt(out: &mut Line, kind: &str, word: &str) -> Result<(), AllocError>
-    ensures { Says result out.old out.new (attempt_report kind.now word.now) }
+fn say_attempt(
+    out: &mut Line,
+    kind: &str,
+    error: Option<&str>,
+    word: &str,
+) -> Result<(), AllocError>
+    ensures { Says result out.old out.new (attempt_report kind.now (option_map (λ s. s.now) error.entry) word.now) }
 {
     out.begin_object()?;
     text_under(out, "kind", kind)?;
+    optional_text_under(out, "error", error)?;
     text_under(out, "word", word)?;
     out.end_object()?;
     Ok(())
@@ -326,7 +333,7 @@ fn say_refused(
     ensures { SaysEach result out.old out.new tried_report (tried_by kind.now refusal) }
 {
     match refusal {
-        Some(refusal) => say_attempt(out, kind, refusal.word()),
+        Some(refusal) => say_attempt(out, kind, Some(refusal_name(&refusal)), refusal.word()),
         None => Ok(()),
     }
 }
@@ -375,11 +382,11 @@ fn say_refusal(
 
 /// What was tried by other means than a reader of objects, under a key.
 fn attempt_under(out: &mut Line, key: &str, kind: &str, word: &str) -> Result<(), AllocError>
-    ensures { SaysUnder result out.old out.new key.now (array (items_of (attempt_report kind.now word.now ∷ []))) }
+    ensures { SaysUnder result out.old out.new key.now (array (items_of (attempt_report kind.now None word.now ∷ []))) }
 {
     out.key(key)?;
     out.begin_array()?;
-    say_attempt(out, kind, word)?;
+    say_attempt(out, kind, None, word)?;
     out.end_array()?;
     Ok(())
 }

@@ -1,28 +1,23 @@
 -- What a report says of the values of extensions that say where more is found, and who signed.
 use Rattle.std.specs.Prelude.{ℕ, List, [], ◌∷◌, ◌++◌, codes, Option, Some, None}
 use Rattle.json.specs.Json.{Json, null, boolean, string}
+use Rattle.x509_parts.specs.Texts.{set_names}
 use Rattle.x509_authorities.specs.AuthorityKeyIdentifier.{AuthorityKeyIdentifierValue}
 use Rattle.x509_authorities.specs.DistributionPointName.{PointName, FullName, NameRelativeToCRLIssuer}
 use Rattle.x509_authorities.specs.DistributionPoints.{Point}
 use Rattle.x509_authorities.specs.InformationAccess.{Access}
 use Rattle.x509_authorities.specs.IssuingDistributionPoint.{IssuingPoint}
-use Rattle.x509_report_lines.specs.Flags.{set_names}
+use Rattle.x509_authorities.specs.ReasonFlags.{reason_words}
 use Rattle.x509_report_lines.specs.Says.{count, optional, list_of, record_of}
 use Rattle.x509_report_values.specs.GeneralNames.{general_name_report}
 use Rattle.x509_report_values.specs.Identifiers.{oid_members}
 use Rattle.x509_report_values.specs.Names.{relative_name_report}
 use Rattle.x509_report_values.specs.Octets.{hex}
 
--- the bits by the standard's names (RFC 5280, 4.2.1.13)
-abbrev pub reasons : List (List ℕ)
-reasons =
-    codes "unused" ∷ codes "key_compromise" ∷ codes "ca_compromise" ∷ codes "affiliation_changed" ∷ codes "superseded" ∷
-    codes "cessation_of_operation" ∷ codes "certificate_hold" ∷ codes "privilege_withdrawn" ∷ codes "aa_compromise" ∷ []
-
 unfoldable pub reason_flags_report : ℕ → Json
 reason_flags_report flags = record_of (
     (codes "flags", count flags) ∷
-    (codes "reasons", list_of (λ s. string s) (set_names reasons flags)) ∷ [])
+    (codes "reasons", list_of (λ s. string s) (set_names reason_words flags)) ∷ [])
 
 unfoldable pub authority_key_identifier_report : AuthorityKeyIdentifierValue → Json
 authority_key_identifier_report v = record_of (

@@ -2,12 +2,15 @@
 use Rattle.std.specs.Prelude.{ℕ, Bool, List, [], ◌∷◌, ◌++◌, codes}
 use Rattle.json.specs.Json.{Json, boolean, string}
 use Rattle.x509_fields.specs.Version.{reason_word}
+use Rattle.x509_parts.specs.Texts.{set_names}
 use Rattle.x509_usages.specs.BasicConstraints.{BasicConstraintsValue}
 use Rattle.x509_usages.specs.ExtendedKeyUsage.{Usages}
+use Rattle.x509_usages.specs.KeyUsage.{key_usage_words}
+use Rattle.x509_usages.specs.NsCertType.{ns_cert_type_words}
 use Rattle.x509_usages.specs.Policies.{PolicyQualifierValue, PolicyValue}
 use Rattle.x509_usages.specs.PolicyConstraints.{PolicyConstraintsValue}
 use Rattle.x509_usages.specs.PolicyMapping.{PolicyMappingValue}
-use Rattle.x509_report_lines.specs.Flags.{set_names, set_words}
+use Rattle.x509_report_lines.specs.Flags.{set_words}
 use Rattle.x509_report_lines.specs.Says.{optional, count, list_of, record_of}
 use Rattle.x509_report_values.specs.Identifiers.{oid_members, oid_report}
 use Rattle.x509_report_values.specs.Octets.{hex}
@@ -17,26 +20,15 @@ basic_constraints_report v = record_of (
     (codes "ca", boolean v.ca) ∷
     (codes "path_len", optional count v.path_len_constraint) ∷ [])
 
--- the bits by the standard's names (RFC 5280, 4.2.1.3)
-abbrev pub key_uses : List (List ℕ)
-key_uses =
-    codes "digital_signature" ∷ codes "non_repudiation" ∷ codes "key_encipherment" ∷ codes "data_encipherment" ∷ codes "key_agreement" ∷
-    codes "key_cert_sign" ∷ codes "crl_sign" ∷ codes "encipher_only" ∷ codes "decipher_only" ∷ []
-
 unfoldable pub key_usage_report : ℕ → Json
 key_usage_report flags = record_of (
     (codes "flags", count flags) ∷
-    (codes "uses", list_of (λ s. string s) (set_names key_uses flags)) ∷ [])
-
-abbrev pub netscape_types : List (List ℕ)
-netscape_types =
-    codes "ssl_client" ∷ codes "ssl_server" ∷ codes "smime" ∷ codes "object_signing" ∷
-    codes "reserved" ∷ codes "ssl_ca" ∷ codes "smime_ca" ∷ codes "object_signing_ca" ∷ []
+    (codes "uses", list_of (λ s. string s) (set_names key_usage_words flags)) ∷ [])
 
 unfoldable pub ns_cert_type_report : ℕ → Json
 ns_cert_type_report flags = record_of (
     (codes "flags", count flags) ∷
-    (codes "types", list_of (λ s. string s) (set_names netscape_types flags)) ∷ [])
+    (codes "types", list_of (λ s. string s) (set_names ns_cert_type_words flags)) ∷ [])
 
 unfoldable pub policy_constraints_report : PolicyConstraintsValue → Json
 policy_constraints_report v = record_of (

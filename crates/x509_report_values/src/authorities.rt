@@ -10,11 +10,11 @@ ghost use Rattle.x509_authorities.specs.InformationAccess.{Access, access_of};
 ghost use Rattle.x509_authorities.specs.IssuingDistributionPoint.{IssuingPoint, issuing_point_of};
 ghost use Rattle.x509_authorities.specs.ReasonFlags.{reason_flags_of};
 ghost use Rattle.x509_report_lines.specs.Says.{SaysMembers, SaysUnder, list_of};
-ghost use Rattle.x509_report_lines.specs.Flags.{set_names};
 ghost use Rattle.x509_fields.specs.Names.{relative_name_of};
 ghost use Rattle.x509_general_names.specs.GeneralName.{general_name_of};
-ghost use Rattle.x509_report_values.specs.Authorities.{reasons, reason_flags_report, authority_key_identifier_report, name_members, point_name_members, point_report, cover_members, issuing_point_report, access_report};
+ghost use Rattle.x509_report_values.specs.Authorities.{reason_flags_report, authority_key_identifier_report, name_members, point_name_members, point_report, cover_members, issuing_point_report, access_report};
 
+use crate::bit_names::names_under;
 use crate::identifiers::oid_members;
 use crate::said::{Said, list_under, optional_list_under, optional_under, value_under};
 use crate::under::{count_under, null_under, optional_hex_under, truth_under};
@@ -25,26 +25,7 @@ use x509_authorities::{
 };
 use x509_fields::RelativeDistinguishedName;
 use x509_general_names::GeneralName;
-use x509_report_lines::{Line, set_names_under};
-
-const REASONS: [&str; 9] = [
-    "unused",
-    "key_compromise",
-    "ca_compromise",
-    "affiliation_changed",
-    "superseded",
-    "cessation_of_operation",
-    "certificate_hold",
-    "privilege_withdrawn",
-    "aa_compromise",
-];
-
-/// The reasons whose bits are set, under a key.
-fn reasons_under(out: &mut Line, key: &str, flags: u16) -> Result<(), AllocError>
-    ensures { SaysUnder result out.old out.new key.now (list_of (λ s. json.string s) (set_names reasons flags)) }
-{
-    set_names_under(out, key, &REASONS, flags)
-}
+use x509_report_lines::Line;
 
 impl Said for ReasonFlags {
     ghost Value = { ℕ };
@@ -57,7 +38,7 @@ impl Said for ReasonFlags {
     fn say(&self, _alloc: Global, out: &mut Line) -> Result<(), AllocError> {
         out.begin_object()?;
         count_under(out, "flags", u64::from(self.flags))?;
-        reasons_under(out, "reasons", self.flags)?;
+        names_under(out, "reasons", self.names())?;
         out.end_object()?;
         Ok(())
     }

@@ -4,6 +4,7 @@
 mod addresses;
 mod algorithms;
 mod authorities;
+mod bit_names;
 mod general_names;
 mod identifiers;
 mod keys;

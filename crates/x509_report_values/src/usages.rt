@@ -9,16 +9,16 @@ ghost use Rattle.x509_usages.specs.Policies.{PolicyQualifierValue, PolicyValue, 
 ghost use Rattle.x509_usages.specs.PolicyConstraints.{PolicyConstraintsValue, policy_constraints_of};
 ghost use Rattle.x509_usages.specs.PolicyMapping.{PolicyMappingValue, policy_mapping_of};
 ghost use Rattle.json.specs.Json as json;
-ghost use Rattle.x509_report_lines.specs.Flags.{set_names};
 ghost use Rattle.x509_report_lines.specs.Says.{SaysUnder, list_of};
-ghost use Rattle.x509_report_values.specs.Usages.{netscape_types, basic_constraints_report, key_usage_report, ns_cert_type_report, policy_constraints_report, inhibit_any_policy_report, qualifier_report, policy_report, policy_mapping_report, extended_key_usage_report, reason_report};
+ghost use Rattle.x509_report_values.specs.Usages.{basic_constraints_report, key_usage_report, ns_cert_type_report, policy_constraints_report, inhibit_any_policy_report, qualifier_report, policy_report, policy_mapping_report, extended_key_usage_report, reason_report};
 
+use crate::bit_names::names_under;
 use crate::identifiers::oid_members;
 use crate::said::{Said, list_under, optional_list_under, value_under};
 use crate::under::{count_under, hex_under, optional_count_under, text_under, truth_under};
 use std::alloc::{AllocError, Global};
 use x509_fields::ReasonCode;
-use x509_report_lines::{Line, set_names_under, set_words_under};
+use x509_report_lines::{Line, set_words_under};
 use x509_usages::{
     BasicConstraints, ExtendedKeyUsage, InhibitAnyPolicy, KeyUsage, NSCertType, PolicyConstraints,
     PolicyInformation, PolicyMapping, PolicyQualifierInfo,
@@ -41,18 +41,6 @@ impl Said for BasicConstraints {
     }
 }
 
-const KEY_USES: [&str; 9] = [
-    "digital_signature",
-    "non_repudiation",
-    "key_encipherment",
-    "data_encipherment",
-    "key_agreement",
-    "key_cert_sign",
-    "crl_sign",
-    "encipher_only",
-    "decipher_only",
-];
-
 impl Said for KeyUsage {
     ghost Value = { ℕ };
 
@@ -64,28 +52,10 @@ impl Said for KeyUsage {
     fn say(&self, _alloc: Global, out: &mut Line) -> Result<(), AllocError> {
         out.begin_object()?;
         count_under(out, "flags", u64::from(self.flags))?;
-        set_names_under(out, "uses", &KEY_USES, self.flags)?;
+        names_under(out, "uses", self.names())?;
         out.end_object()?;
         Ok(())
     }
-}
-
-const NETSCAPE_TYPES: [&str; 8] = [
-    "ssl_client",
-    "ssl_server",
-    "smime",
-    "object_signing",
-    "reserved",
-    "ssl_ca",
-    "smime_ca",
-    "object_signing_ca",
-];
-
-/// The types whose bits are set, under a key.
-fn types_under(out: &mut Line, key: &str, flags: u16) -> Result<(), AllocError>
-    ensures { SaysUnder result out.old out.new key.now (list_of (λ s. json.string s) (set_names netscape_types flags)) }
-{
-    set_names_under(out, key, &NETSCAPE_TYPES, flags)
 }
 
 impl Said for NSCertType {
@@ -99,7 +69,7 @@ impl Said for NSCertType {
     fn say(&self, _alloc: Global, out: &mut Line) -> Result<(), AllocError> {
         out.begin_object()?;
         count_under(out, "flags", u64::from(self.flags))?;
-        types_under(out, "types", u16::from(self.flags))?;
+        names_under(out, "types", self.names())?;
         out.end_object()?;
         Ok(())
     }

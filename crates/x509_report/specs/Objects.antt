@@ -1,0 +1,57 @@
+-- The lines of an object: its own, and where they are asked for those of a list's entries.
+use Rattle.std.specs.Prelude.{ℕ, ◌+◌, List, [], ◌∷◌, Bool, if◌then◌else◌, Option, Some, None, Ok, Err, is_some}
+use Rattle.json.specs.Json.{Json}
+use Rattle.sha2.specs.Sha256.{sha256}
+use Rattle.x509_der.specs.Plan.{Outcome}
+use Rattle.x509_der.specs.declared.error.Err.{Err as Refusal}
+use Rattle.x509_fields.specs.declared.error.X509Error.{X509Error}
+use Rattle.x509_lists.specs.CertificateList.{certificate_list}
+use Rattle.x509_lists.specs.RevokedCertificate.{Revoked}
+use Rattle.x509_lists.specs.TbsCertList.{TbsList}
+use Rattle.x509_signed.specs.Signed.{Signed}
+use Rattle.x509_report_objects.specs.Attempts.{wishes_of}
+use Rattle.x509_report_objects.specs.Lists.{entry_report}
+use Rattle.x509_report_objects.specs.Objects.{object_told}
+use Rattle.x509_report_objects.specs.Places.{Found, Wishes}
+use Rattle.x509_report_objects.specs.declared.objects.Kind.{Kind}
+use Rattle.x509_report_objects.specs.declared.objects.Kind.TheVariants as kinds
+use Rattle.x509_report.specs.Texts.{said}
+use Rattle.x509_report.specs.Told.{Told}
+use Rattle.x509_report.specs.declared.options.Asked.{Asked}
+use Rattle.x509_report.specs.declared.options.Form.{Form}
+
+-- what is wanted of the objects, and whether the entries of lists get lines of their own
+pub record Asks : Type 0 where
+  pub wishes : Wishes
+  pub entries : Bool
+
+abbrev pub asks_of : Asked → Asks
+asks_of a = record { wishes = wishes_of a.wishes; entries = a.entries }
+
+-- a line an entry, from this number on
+unfoldable pub entry_lines : Form → Found → Option (List ℕ) → ℕ → List Revoked → List (List ℕ)
+entry_lines form p fingerprint n [] = []
+entry_lines form p fingerprint n (r ∷ rs) = said form (entry_report p fingerprint n r) ∷ entry_lines form p fingerprint (n + 1) rs
+
+abbrev pub fingerprint_of : Bool → List ℕ → Option (List ℕ)
+fingerprint_of wanted octets = if wanted then Some (sha256 octets) else None
+
+abbrev pub entries_of : Outcome (Refusal X509Error) (Signed TbsList) → List Revoked
+entries_of (Ok x) = x.1.tbs.revoked_certificates
+entries_of (Err e) = []
+
+abbrev pub list_lines : Form → Bool → Found → List ℕ → List (List ℕ)
+list_lines form fingerprints p octets = entry_lines form p (fingerprint_of fingerprints octets) 0 (entries_of (certificate_list.read octets))
+
+-- what stands behind the line of an object of this kind
+abbrev pub lines_behind : Asks → Form → Found → List ℕ → Option Kind → List (List ℕ)
+lines_behind a form p octets (Some kinds.List) = if a.entries then list_lines form a.wishes.fingerprints p octets else []
+lines_behind a form p octets (Some kinds.Certificate) = []
+lines_behind a form p octets (Some kinds.Request) = []
+lines_behind a form p octets None = []
+
+abbrev pub told_of : Asks → Form → Found → List ℕ → Option Kind × Json → Told
+told_of a form p octets r = record { taken = is_some r.0; lines = said form r.1 ∷ lines_behind a form p octets r.0 }
+
+unfoldable pub lines_of_object : Asks → Form → Found → List ℕ → Told
+lines_of_object a form p octets = told_of a form p octets (object_told a.wishes p octets)
