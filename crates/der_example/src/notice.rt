@@ -7,7 +7,7 @@ ghost use Rattle.der_example.specs.Notice.{NoticeValue, notice_of, notice, notic
 
 use crate::topic::{Editions, Topics};
 use std::alloc::Global;
-use x509_der::{BerError, Elements, Err, FromDer, Place, Tries, soft_at};
+use x509_der::{BerError, Err, Fields, FromDer, Place, Tries};
 
 /// A notice.
 #[derive(Drop)]
@@ -43,17 +43,16 @@ impl<'a> FromDer<'a, BerError> for Notice<'a> {
         place: &Place<'a>,
     ) -> Result<(Self, bool), Err<BerError>> {
         let contents = place.sequence()?;
-        let children: Elements<'_, 3> = Elements::cut(tries, contents);
-        let (k, topics, first) = soft_at(alloc, tries, &children, 0)?;
-        let (k, editions, second) = soft_at(alloc, tries, &children, k)?;
-        let last = children.at(k);
-        let limit = last.u32()?;
+        let fields = Fields::of(tries, contents);
+        let (fields, topics) = fields.soft(alloc, tries)?;
+        let (fields, editions) = fields.soft(alloc, tries)?;
+        let limit = fields.place.u32()?;
         let notice = Notice {
             topics,
             editions,
             limit,
         };
-        Ok((notice, first & second & last.rest().is_empty()))
+        Ok((notice, fields.ends_here()))
     }
 
     ghost never_memory = { notice_laws.laws.never_memory };

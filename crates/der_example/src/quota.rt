@@ -8,7 +8,7 @@ ghost use Rattle.x509_der.specs.Reading.{strict};
 ghost use Rattle.der_example.specs.Quota.{QuotaValue, quota_of, quota, quota_heads, quota_laws};
 
 use std::alloc::Global;
-use x509_der::{BerError, Elements, Err, ErrorKind, FromDer, Place, Tries};
+use x509_der::{BerError, Err, ErrorKind, Fields, FromDer, Place, Tries};
 
 /// How many each may have, and all together.
 #[derive(Clone, Copy, Debug, PartialEq, Eq)]
@@ -45,16 +45,10 @@ impl<'a> FromDer<'a, BerError> for Quota {
         place: &Place<'a>,
     ) -> Result<(Self, bool), Err<BerError>> {
         let contents = place.sequence()?;
-        let children: Elements<'_, 2> = Elements::cut(tries, contents);
-        let (k, each) = match children.at(0).implicit_u32(0) {
-            Ok(number) => (1, Some(number)),
-            Err(_) => (0, None),
-        };
-        let (k, all) = match children.at(k).implicit_u32(1) {
-            Ok(number) => (k + 1, Some(number)),
-            Err(_) => (k, None),
-        };
-        if !children.at(k).bytes().is_empty() {
+        let fields = Fields::of(tries, contents);
+        let (fields, each) = fields.soft_implicit_u32(tries, 0);
+        let (fields, all) = fields.soft_implicit_u32(tries, 1);
+        if !fields.are_over() {
             return Err(Err::Error(BerError::NomError(ErrorKind::Eof)));
         }
         Ok((Quota { each, all }, true))

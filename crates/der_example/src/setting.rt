@@ -8,7 +8,7 @@ ghost use Rattle.x509_der.specs.Reading.{strict};
 ghost use Rattle.der_example.specs.Setting.{SettingValue, setting_of, setting, setting_heads, setting_laws};
 
 use std::alloc::Global;
-use x509_der::{BerError, Elements, Err, FromDer, Place, Tries};
+use x509_der::{BerError, Err, Fields, FromDer, Place, Tries};
 
 /// Whether something is on, and how much.
 #[derive(Clone, Copy, Debug, PartialEq, Eq)]
@@ -45,16 +45,10 @@ impl<'a> FromDer<'a, BerError> for Setting {
         place: &Place<'a>,
     ) -> Result<(Self, bool), Err<BerError>> {
         let contents = place.sequence()?;
-        let children: Elements<'_, 2> = Elements::cut(tries, contents);
-        let (k, on) = match children.at(0).bool() {
-            Ok(on) => (1, Some(on)),
-            Err(_) => (0, None),
-        };
-        let (k, level) = match children.at(k).u32() {
-            Ok(number) => (k + 1, Some(number)),
-            Err(_) => (k, None),
-        };
-        if !children.at(k).bytes().is_empty() {
+        let fields = Fields::of(tries, contents);
+        let (fields, on) = fields.soft_bool(tries);
+        let (fields, level) = fields.soft_u32(tries);
+        if !fields.are_over() {
             return Err(Err::Error(BerError::BerValueError));
         }
         Ok((Setting { on, level }, true))

@@ -5,10 +5,10 @@ ghost use Rattle.x509_der.specs.Primitives.{is_constructed};
 ghost use Rattle.x509_der.specs.Reading.{strict};
 ghost use Rattle.x509_authorities.specs.AuthorityKeyIdentifier.{AuthorityKeyIdentifierValue, authority_key_identifier_of, authority_key_identifier, authority_key_identifier_heads, authority_key_identifier_laws};
 
-use crate::implicit_names::soft_names_at;
+use crate::implicit_names::ImplicitNames;
 use crate::key_identifier::KeyIdentifier;
 use std::alloc::Global;
-use x509_der::{Elements, Err, FromDer, Place, Sequence, Tries};
+use x509_der::{Err, Fields, FromDer, Place, Sequence, Tries};
 use x509_fields::{TryClone, X509Error, sequence_at};
 use x509_general_names::GeneralName;
 
@@ -53,30 +53,27 @@ impl<'a> FromDer<'a, X509Error> for AuthorityKeyIdentifier<'a> {
 
     ghost takes_memory = { true };
 
-    #[tactic(auto, unfolding(crate::specs::AuthorityKeyIdentifier::authority_key_identifier), using(x509_der::proofs::Marking::marks_of_readers))]
+    #[tactic(auto, unfolding(crate::specs::AuthorityKeyIdentifier::authority_key_identifier), using(x509_der::proofs::Steps::marks_of_fields))]
     fn read_at(
         alloc: Global,
         tries: &mut Tries,
         place: &Place<'a>,
     ) -> Result<(Self, bool), Err<X509Error>> {
         let contents = sequence_at(place)?;
-        let children: Elements<'_, 3> = Elements::cut(tries, contents);
-        let (k, key_identifier) = match children.at(0).implicit(0) {
-            Ok(octets) => (1, Some(KeyIdentifier(octets))),
-            Err(_) => (0, None),
-        };
-        let (k, authority_cert_issuer, plain) = soft_names_at(alloc, tries, &children, k, 1)?;
-        let (k, authority_cert_serial) = match children.at(k).implicit(2) {
-            Ok(octets) => (k + 1, Some(octets)),
-            Err(_) => (k, None),
-        };
-        let tail = children.at(k);
+        let fields = Fields::of(tries, contents);
+        let (fields, octets) = fields.soft_implicit(tries, 0);
+        let (fields, authority_cert_issuer) = fields.soft_by(
+            &ImplicitNames { number: 1 },
+            alloc,
+            tries,
+        )?;
+        let (fields, authority_cert_serial) = fields.soft_implicit(tries, 2);
         let identifier = AuthorityKeyIdentifier {
-            key_identifier,
+            key_identifier: octets.map(KeyIdentifier),
             authority_cert_issuer,
             authority_cert_serial,
         };
-        Ok((identifier, plain & tail.bytes().is_empty()))
+        Ok((identifier, fields.are_plain()))
     }
 
     ghost never_memory = { authority_key_identifier_laws.laws.never_memory };

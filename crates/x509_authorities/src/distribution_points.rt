@@ -6,10 +6,10 @@ ghost use Rattle.x509_der.specs.Reading.{strict};
 ghost use Rattle.x509_authorities.specs.DistributionPoints.{Point, point_of, points_of, crl_distribution_point, crl_distribution_points, point_heads, points_heads, crl_distribution_point_laws, crl_distribution_points_laws};
 
 use crate::distribution_point_name::DistributionPointName;
-use crate::implicit_names::soft_some_names_at;
-use crate::reason_flags::{ReasonFlags, reasons_at};
+use crate::implicit_names::SomeNames;
+use crate::reason_flags::{ReasonFlags, soft_reasons};
 use std::alloc::Global;
-use x509_der::{Elements, Err, ErrorKind, FromDer, Place, Sequence, Tries, read_run, soft_at};
+use x509_der::{Err, ErrorKind, Fields, FromDer, Place, Sequence, Tries, read_run};
 use x509_fields::{TryClone, X509Error, sequence_at};
 use x509_general_names::GeneralName;
 use x509_parts::list_error;
@@ -63,20 +63,16 @@ impl<'a> FromDer<'a, X509Error> for CRLDistributionPoint<'a> {
         place: &Place<'a>,
     ) -> Result<(Self, bool), Err<X509Error>> {
         let contents = sequence_at(place)?;
-        let children: Elements<'_, 3> = Elements::cut(tries, contents);
-        let (k, distribution_point, first) = soft_at(alloc, tries, &children, 0)?;
-        let (k, reasons) = match reasons_at(&children.at(k), 1) {
-            Ok(reasons) => (k + 1, Some(reasons)),
-            Err(_) => (k, None),
-        };
-        let (k, crl_issuer, third) = soft_some_names_at(alloc, tries, &children, k, 2)?;
-        let tail = children.at(k);
+        let fields = Fields::of(tries, contents);
+        let (fields, distribution_point) = fields.soft(alloc, tries)?;
+        let (fields, reasons) = soft_reasons(&fields, tries, 1);
+        let (fields, crl_issuer) = fields.soft_by(&SomeNames { number: 2 }, alloc, tries)?;
         let point = CRLDistributionPoint {
             distribution_point,
             reasons,
             crl_issuer,
         };
-        Ok((point, first & third & tail.bytes().is_empty()))
+        Ok((point, fields.are_plain()))
     }
 
     ghost never_memory = { crl_distribution_point_laws.laws.never_memory };

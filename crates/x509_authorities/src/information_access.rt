@@ -1,12 +1,10 @@
 //! Where more about an issuer or a subject is found.
 
-ghost use Rattle.std.specs.Prelude.{◌≡◌, ◌≤◌, ◌-◌, [], ◌∷◌, List, map, true, length, IfOk, IfErr, IsErr};
-ghost use Rattle.x509_der.specs.Looks.{behind, is_element, CountedBehind};
-ghost use Rattle.x509_der.specs.Oid.{oid_bytes};
+ghost use Rattle.std.specs.Prelude.{◌≡◌, List, map, true, IfOk, IfErr};
 ghost use Rattle.x509_der.specs.Place.{at};
 ghost use Rattle.x509_der.specs.Primitives.{is_constructed};
-ghost use Rattle.x509_der.specs.Promises.{Answers, IsForeign};
-ghost use Rattle.x509_der.specs.Reading.{AddsAtLeast, strict};
+ghost use Rattle.x509_der.specs.Promises.{ReadsAt};
+ghost use Rattle.x509_der.specs.Reading.{strict};
 ghost use Rattle.x509_der.specs.declared.oid.Oid.{Oid as OidOf};
 ghost use Rattle.x509_fields.specs.Errors.{is_x509_memory};
 ghost use Rattle.x509_fields.specs.declared.error.X509Error.TheVariants.{OutOfMemory};
@@ -17,7 +15,7 @@ use crate::access_iter::AccessIter;
 use std::alloc::Global;
 use std::collections::HashMap;
 use std::hash::BuildHasher;
-use x509_der::{Err, ErrorKind, FromDer, Oid, Place, Sequence, Tries, Two, read_run};
+use x509_der::{Err, ErrorKind, Fields, FromDer, Oid, Place, Sequence, Tries, read_run};
 use x509_fields::{TryClone, X509Error, sequence_at};
 use x509_general_names::GeneralName;
 use x509_parts::{add_to_group, list_error};
@@ -77,14 +75,14 @@ impl<'a> FromDer<'a, X509Error> for AccessDescription<'a> {
         place: &Place<'a>,
     ) -> Result<(Self, bool), Err<X509Error>> {
         let contents = sequence_at(place)?;
-        let Two { first, second } = Two::cut(tries, contents);
-        let access_method = first.oid().map_err(|e| e.convert())?;
-        let (access_location, plain) = GeneralName::read_at(alloc, tries, &second)?;
+        let fields = Fields::of(tries, contents);
+        let (fields, access_method) = fields.oid(tries).map_err(|e| e.convert())?;
+        let (access_location, plain) = fields.last(alloc, tries)?;
         let description = AccessDescription {
             access_method,
             access_location,
         };
-        Ok((description, plain & second.rest().is_empty()))
+        Ok((description, plain))
     }
 
     ghost never_memory = { access_description_laws.laws.never_memory };
@@ -289,13 +287,7 @@ fn accesses_at<'a>(
     tries: &mut Tries,
     place: &Place<'a>,
 ) -> Result<(Sequence<AccessDescription<'a>>, bool), Err<X509Error>>
-    ensures reads { Answers is_x509_memory true (λ x. (behind (at place.now), map access_of x.0)) result (information_access.read (at place.now)) }
-    ensures marks { IfOk result (λ x. x.1 ≡ information_access.marks (at place.now)) }
-    ensures grows { tries.old ≤ tries.new }
-    ensures count { CountedBehind (length (behind (at place.now))) tries.old tries.new (length (at place.now)) result }
-    ensures foreign { IsForeign strict (is_constructed 16) (at place.now) → IsErr result × (tries.new ≤ tries.old) }
-    ensures least { IfOk result (λ x. AddsAtLeast (information_access_heads (map access_of x.0) - 1) tries.old tries.new) }
-    ensures there { IfOk result (λ _. is_element (at place.now) ≡ true) }
+    ensures { ReadsAt is_x509_memory true strict (is_constructed 16) information_access_heads (λ x. map access_of x) information_access (at place.now) tries.old tries.new result }
 {
     let contents = sequence_at(place)?;
     let (rest, accesses, plain) = read_run(alloc, tries, contents)?;

@@ -1,22 +1,15 @@
 //! What a list of revoked certificates covers.
 
-ghost use Rattle.std.specs.Prelude.{◌≡◌, ◌<◌, ◌≤◌, ◌+◌, Ok, length, true};
-ghost use Rattle.x509_der.specs.Children.{window_of, count_of};
-ghost use Rattle.x509_der.specs.Looks.{place_at};
-ghost use Rattle.x509_der.specs.Plan.{soft, context};
+ghost use Rattle.std.specs.Prelude.{true};
 ghost use Rattle.x509_der.specs.Primitives.{is_constructed};
-ghost use Rattle.x509_der.specs.Promises.{option_view, option_heads};
 ghost use Rattle.x509_der.specs.Reading.{strict};
-ghost use Rattle.x509_fields.specs.Fields.{lifted};
-ghost use Rattle.x509_authorities.specs.ImplicitBool.{implicit_bool};
-ghost use Rattle.x509_authorities.specs.ReasonFlags.{reason_flags_of, implicit_reasons};
-ghost use Rattle.x509_authorities.specs.IssuingDistributionPoint.{flag, flag_heads, IssuingPoint, issuing_point_of, issuing_distribution_point, issuing_point_heads, issuing_distribution_point_laws};
+ghost use Rattle.x509_authorities.specs.IssuingDistributionPoint.{IssuingPoint, issuing_point_of, issuing_distribution_point, issuing_point_heads, issuing_distribution_point_laws};
 
 use crate::distribution_point_name::DistributionPointName;
-use crate::implicit_bool::bool_at;
-use crate::reason_flags::{ReasonFlags, reasons_at};
+use crate::implicit_bool::soft_bool;
+use crate::reason_flags::{ReasonFlags, soft_reasons};
 use std::alloc::Global;
-use x509_der::{Elements, Err, FromDer, Place, Tries, soft_at};
+use x509_der::{Err, Fields, FromDer, Place, Tries};
 use x509_fields::{TryClone, X509Error, sequence_at};
 
 /// Where a list of revoked certificates is found, and what it covers (RFC 5280, section 5.2.5).
@@ -77,14 +70,13 @@ impl<'a> FromDer<'a, X509Error> for IssuingDistributionPoint<'a> {
         place: &Place<'a>,
     ) -> Result<(Self, bool), Err<X509Error>> {
         let contents = sequence_at(place)?;
-        let children: Elements<'_, 6> = Elements::cut(tries, contents);
-        let (k, distribution_point, plain) = soft_at(alloc, tries, &children, 0)?;
-        let (k, user_certs) = soft_bool_at(&children, k, 1);
-        let (k, ca_certs) = soft_bool_at(&children, k, 2);
-        let (k, only_some_reasons) = soft_reasons_at(&children, k, 3);
-        let (k, indirect_crl) = soft_bool_at(&children, k, 4);
-        let (k, attribute_certs) = soft_bool_at(&children, k, 5);
-        let tail = children.at(k);
+        let fields = Fields::of(tries, contents);
+        let (fields, distribution_point) = fields.soft(alloc, tries)?;
+        let (fields, user_certs) = soft_bool(&fields, tries, 1);
+        let (fields, ca_certs) = soft_bool(&fields, tries, 2);
+        let (fields, only_some_reasons) = soft_reasons(&fields, tries, 3);
+        let (fields, indirect_crl) = soft_bool(&fields, tries, 4);
+        let (fields, attribute_certs) = soft_bool(&fields, tries, 5);
         let point = IssuingDistributionPoint {
             distribution_point,
             only_contains_user_certs: user_certs.unwrap_or(false),
@@ -93,7 +85,7 @@ impl<'a> FromDer<'a, X509Error> for IssuingDistributionPoint<'a> {
             indirect_crl: indirect_crl.unwrap_or(false),
             only_contains_attribute_certs: attribute_certs.unwrap_or(false),
         };
-        Ok((point, plain & tail.bytes().is_empty()))
+        Ok((point, fields.are_plain()))
     }
 
     ghost never_memory = { issuing_distribution_point_laws.laws.never_memory };
@@ -110,43 +102,5 @@ impl TryClone for IssuingDistributionPoint<'_> {
             indirect_crl: self.indirect_crl,
             only_contains_attribute_certs: self.only_contains_attribute_certs,
         })
-    }
-}
-
-// A BOOLEAN that may be absent, at a place of children, with the number of the next place.
-#[inline(always)]
-fn soft_bool_at(children: &Elements<'_, 6>, k: usize, number: u32) -> (usize, Option<bool>)
-    requires { k < 6 }
-    ensures reads { (soft (context number) (lifted (implicit_bool number))).read (place_at (window_of children.now) k) ≡ Ok (place_at (window_of children.now) result.0, result.1) }
-    ensures marks { (soft (context number) (lifted (implicit_bool number))).marks (place_at (window_of children.now) k) ≡ true }
-    ensures next { result.0 ≤ k + 1 }
-    ensures within { k ≤ count_of children.now → result.0 ≤ count_of children.now }
-    ensures some { k + flag_heads (flag result.1) ≤ result.0 }
-    ensures sizes { length (place_at (window_of children.now) result.0) ≤ length (place_at (window_of children.now) k) }
-{
-    match bool_at(&children.at(k), number) {
-        Ok(truth) => (k + 1, Some(truth)),
-        Err(_) => (k, None),
-    }
-}
-
-// Reasons that may be absent, at a place of children, with the number of the next place.
-#[inline(always)]
-fn soft_reasons_at(
-    children: &Elements<'_, 6>,
-    k: usize,
-    number: u32,
-) -> (usize, Option<ReasonFlags>)
-    requires { k < 6 }
-    ensures reads { (soft (context number) (implicit_reasons number)).read (place_at (window_of children.now) k) ≡ Ok (place_at (window_of children.now) result.0, option_view reason_flags_of result.1) }
-    ensures marks { (soft (context number) (implicit_reasons number)).marks (place_at (window_of children.now) k) ≡ true }
-    ensures next { result.0 ≤ k + 1 }
-    ensures within { k ≤ count_of children.now → result.0 ≤ count_of children.now }
-    ensures some { k + option_heads (λ _. 1) (option_view reason_flags_of result.1) ≤ result.0 }
-    ensures sizes { length (place_at (window_of children.now) result.0) ≤ length (place_at (window_of children.now) k) }
-{
-    match reasons_at(&children.at(k), number) {
-        Ok(reasons) => (k + 1, Some(reasons)),
-        Err(_) => (k, None),
     }
 }

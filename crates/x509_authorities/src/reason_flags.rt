@@ -1,11 +1,11 @@
 //! Why certificates are revoked.
 
-ghost use Rattle.std.specs.Prelude.{◌≡◌, ◌<◌, ◌≤◌, ◌+◌, ℕ, Some, IfOk, length, true, false};
-ghost use Rattle.x509_der.specs.Looks.{behind, is_element};
+ghost use Rattle.std.specs.Prelude.{◌≡◌, ◌<◌, ℕ, Some, IfOk, IfSome, true, false};
+ghost use Rattle.x509_der.specs.Fields.{next_of, plain_in, StepsSoftLeaf};
 ghost use Rattle.x509_der.specs.Place.{at};
 ghost use Rattle.x509_der.specs.Primitives.{is_explicit, is_primitive};
-ghost use Rattle.x509_der.specs.Promises.{IsForeign};
-ghost use Rattle.x509_der.specs.Reading.{Gives, strict};
+ghost use Rattle.x509_der.specs.Promises.{IsForeign, ReadsLeaf, option_view};
+ghost use Rattle.x509_der.specs.Reading.{strict};
 ghost use Rattle.x509_parts.specs.Flags.{has_bit};
 ghost use Rattle.x509_parts.specs.BitNames.{names_left};
 ghost use Rattle.x509_parts.specs.Texts.{flags_text, set_names};
@@ -13,7 +13,7 @@ ghost use Rattle.x509_authorities.specs.ReasonFlags.{reason_flags_of, reason_fla
 
 use std::alloc::Global;
 use std::fmt;
-use x509_der::{Err, FromDer, Place, Tries};
+use x509_der::{Err, Fields, FromDer, Place, Tries};
 use x509_fields::X509Error;
 use x509_parts::{BitNames, FlagNames, flags_of, is_set};
 
@@ -162,16 +162,32 @@ impl<'a> FromDer<'a, X509Error> for ReasonFlags {
     ghost never_memory = { reason_flags_laws.laws.never_memory };
 }
 
+/// Reasons under this context tag that may be absent.
+#[inline(always)]
+#[tactic(auto, using(x509_der::proofs::Steps::marks_of_fields))]
+pub(crate) fn soft_reasons<'a>(
+    fields: &Fields<'a>,
+    tries: &mut Tries,
+    number: u32,
+) -> (Fields<'a>, Option<ReasonFlags>)
+    ensures reads { StepsSoftLeaf (λ x. (next_of x.0, option_view reason_flags_of x.1)) (λ x. plain_in x.0) (implicit_reasons number) (plain_in fields.now) (next_of fields.now) tries.old tries.new result }
+    // No element of another tag is read.
+    ensures foreign { IfSome result.1 (λ _. 0 < number → IsForeign strict (is_explicit 0) (next_of fields.now)) }
+{
+    match reasons_at(&fields.place, number) {
+        Ok(reasons) => (fields.behind(tries, true), Some(reasons)),
+        Err(_) => (*fields, None),
+    }
+}
+
 /// Reasons under this context tag.
 #[inline(always)]
 #[tactic(auto, unfolding(crate::specs::ReasonFlags::implicit_reasons), using(x509_der::proofs::Marking::marks_of_readers))]
-pub(crate) fn reasons_at(place: &Place<'_>, number: u32) -> Result<ReasonFlags, Err<X509Error>>
-    ensures reads { Gives (λ x. (behind (at place.now), reason_flags_of x)) result ((implicit_reasons number).read (at place.now)) }
+fn reasons_at(place: &Place<'_>, number: u32) -> Result<ReasonFlags, Err<X509Error>>
+    ensures reads { ReadsLeaf reason_flags_of (implicit_reasons number) (at place.now) result }
     ensures marks { (implicit_reasons number).marks (at place.now) ≡ true }
     // No element of another tag is read.
     ensures foreign { IfOk result (λ _. 0 < number → IsForeign strict (is_explicit 0) (at place.now)) }
-    ensures there { IfOk result (λ _. is_element (at place.now) ≡ true) }
-    ensures sizes { IfOk result (λ _. length (behind (at place.now)) + 2 ≤ length (at place.now)) }
 {
     let bits = place.implicit_bits(number).map_err(|e| e.convert())?;
     let flags = flags_of(&bits);

@@ -48,11 +48,11 @@ certificate_front_stands deep bytes c rest k front =
 
 -- what a reader that isn't strict refuses is refused at every depth
 pub certificate_refused : {X : Type 0} (deep strictly : Bool) (view : X → List ℕ × Certificate) (result : Result X (Refusal X509Error)) (bytes : List ℕ) → IsBytes bytes
-    → Answers is_x509_memory true view result ((certificate_by deep strictly).read bytes) → strictly ≡ false → IfErr result (λ e. is_excused is_x509_memory true e ≡ false → (other : Bool) → (certificate other).Refuses bytes e)
+    → Answers is_x509_memory true view result ((certificate_by deep strictly).read bytes) → strictly ≡ false → IfErr result (λ e. is_excused is_x509_memory true e ≡ false → (other : Bool) → (left : ℕ) × (certificate other).Refuses bytes e left)
 certificate_refused deep strictly view result bytes k reads loosely =
     refused_at_depths certificate certificate_at_depth certificate_depths (λ other. (certificate_laws other).laws.lawful) is_x509_memory deep view result bytes k (subst (λ (s : Bool). Answers is_x509_memory true view result ((certificate_by deep s).read bytes)) loosely reads)
 
 pub tbs_refused : {X : Type 0} (deep strictly : Bool) (view : X → List ℕ × Tbs) (result : Result X (Refusal X509Error)) (bytes : List ℕ) → IsBytes bytes
-    → Answers is_x509_memory true view result ((tbs_by deep strictly).read bytes) → strictly ≡ false → IfErr result (λ e. is_excused is_x509_memory true e ≡ false → (other : Bool) → (tbs other).Refuses bytes e)
+    → Answers is_x509_memory true view result ((tbs_by deep strictly).read bytes) → strictly ≡ false → IfErr result (λ e. is_excused is_x509_memory true e ≡ false → (other : Bool) → (left : ℕ) × (tbs other).Refuses bytes e left)
 tbs_refused deep strictly view result bytes k reads loosely =
     refused_at_depths tbs tbs_at_depth tbs_depths (λ other. (tbs_laws other).laws.lawful) is_x509_memory deep view result bytes k (subst (λ (s : Bool). Answers is_x509_memory true view result ((tbs_by deep s).read bytes)) loosely reads)

@@ -1,11 +1,11 @@
 //! Readers of certificates.
 
-ghost use Rattle.std.specs.Prelude.{◌≡◌, ◌<◌, ◌≤◌, ◌+◌, ◌-◌, ◌*◌, Bool, true, false, IfOk, IfErr, IsErr, length};
-ghost use Rattle.x509_der.specs.Looks.{behind, is_element, CountedBehind};
+ghost use Rattle.std.specs.Prelude.{◌≡◌, ◌<◌, ◌≤◌, ◌+◌, ◌-◌, ◌*◌, ℕ, Bool, true, false, IfOk, IfErr, length};
+ghost use Rattle.x509_der.specs.Looks.{behind};
 ghost use Rattle.x509_der.specs.Place.{at};
 ghost use Rattle.x509_der.specs.Primitives.{is_constructed};
-ghost use Rattle.x509_der.specs.Promises.{Answers, TriesBounded, IsForeign, ReadsExactly, is_excused};
-ghost use Rattle.x509_der.specs.Reading.{AddsAtLeast, strict};
+ghost use Rattle.x509_der.specs.Promises.{Answers, TriesBounded, ReadsAt, ReadsExactly, is_excused};
+ghost use Rattle.x509_der.specs.Reading.{strict};
 ghost use Rattle.x509_fields.specs.Errors.{is_x509_memory};
 ghost use Rattle.x509_extensions.specs.Extension.{value_bytes};
 ghost use Rattle.x509_certs.specs.Certificate.{is_deep, is_strict, certificate_of, certificate_heads, CertificateStands, certificate, certificate_by};
@@ -13,8 +13,8 @@ ghost use Rattle.x509_certs.specs.Certificate.{is_deep, is_strict, certificate_o
 use crate::certificate::X509Certificate;
 use crate::tbs_parser::TbsCertificateParser;
 use std::alloc::Global;
-use x509_der::{Err, FromDer, Place, Tries};
-use x509_fields::{AlgorithmIdentifier, X509Error, X509Result, sequence_at};
+use x509_der::{Err, Fields, Place, Tries};
+use x509_fields::{X509Error, X509Result, sequence_at};
 use x509_signed::signature_value_at;
 
 /// Reads certificates, with or without what the values of extensions say.
@@ -84,7 +84,7 @@ impl X509CertificateParser {
         ensures exact { ReadsExactly is_x509_memory true (λ x. (x.0.now, certificate_of x.1)) (certificate_by (is_deep self.now) (is_strict self.now)) i.now result }
         ensures stands { IfOk result (λ x. CertificateStands (is_deep self.now) i.now (certificate_of x.1) x.0.now) }
         // What is refused at one depth is refused at the other.
-        ensures refused_at_any_depth { is_strict self.now ≡ false → IfErr result (λ e. is_excused is_x509_memory true e ≡ false → (deep : Bool) → (certificate deep).Refuses i.now e) }
+        ensures refused_at_any_depth { is_strict self.now ≡ false → IfErr result (λ e. is_excused is_x509_memory true e ≡ false → (deep : Bool) → (left : ℕ) × (certificate deep).Refuses i.now e left) }
     {
         self.read(alloc, &mut Tries::new(), i)
     }
@@ -99,7 +99,7 @@ impl X509CertificateParser {
     ) -> X509Result<'a, X509Certificate<'a>>
         ensures reads { Answers is_x509_memory true (λ x. (x.0.now, certificate_of x.1)) result ((certificate_by (is_deep self.now) (is_strict self.now)).read i.now) }
         ensures stands { IfOk result (λ x. CertificateStands (is_deep self.now) i.now (certificate_of x.1) x.0.now) }
-        ensures refused_at_any_depth { is_strict self.now ≡ false → IfErr result (λ e. is_excused is_x509_memory true e ≡ false → (deep : Bool) → (certificate deep).Refuses i.now e) }
+        ensures refused_at_any_depth { is_strict self.now ≡ false → IfErr result (λ e. is_excused is_x509_memory true e ≡ false → (deep : Bool) → (left : ℕ) × (certificate deep).Refuses i.now e left) }
         ensures tries { TriesBounded strict (is_constructed 16) certificate_heads (λ x. (x.0.now, certificate_of x.1)) i.now tries.old tries.new result }
         ensures shallow { is_deep self.now ≡ false → IfOk result (λ x. tries.new + 8 + 8 * value_bytes ((certificate_of x.1).tbs.extensions) + 8 * length x.0.now ≤ tries.old + 8 * length i.now) }
     {
@@ -144,27 +144,21 @@ impl X509CertificateParser {
         tries: &mut Tries,
         place: &Place<'a>,
     ) -> Result<(X509Certificate<'a>, bool), Err<X509Error>>
-        ensures reads { Answers is_x509_memory true (λ x. (behind (at place.now), certificate_of x.0)) result ((certificate (is_deep self.now)).read (at place.now)) }
-        ensures marks { IfOk result (λ x. x.1 ≡ (certificate (is_deep self.now)).marks (at place.now)) }
-        ensures grows { tries.old ≤ tries.new }
-        ensures count { CountedBehind (length (behind (at place.now))) tries.old tries.new (length (at place.now)) result }
-        ensures foreign { IsForeign strict (is_constructed 16) (at place.now) → IsErr result × (tries.new ≤ tries.old) }
-        ensures least { IfOk result (λ x. AddsAtLeast (certificate_heads (certificate_of x.0) - 1) tries.old tries.new) }
-        ensures there { IfOk result (λ _. is_element (at place.now) ≡ true) }
+        ensures reads { ReadsAt is_x509_memory true strict (is_constructed 16) certificate_heads certificate_of (certificate (is_deep self.now)) (at place.now) tries.old tries.new result }
         ensures shallow { is_deep self.now ≡ false → IfOk result (λ x. tries.new + 9 + 8 * value_bytes ((certificate_of x.0).tbs.extensions) + 8 * length (behind (at place.now)) ≤ tries.old + 8 * length (at place.now)) }
     {
         let contents = sequence_at(place)?;
-        let first = Place::look(tries, contents);
-        let (tbs_certificate, tbs_plain) = match self.tbs_parser.read_at(alloc, tries, &first) {
+        let fields = Fields::of(tries, contents);
+        let (tbs_certificate, tbs_plain) = match self
+            .tbs_parser
+            .read_at(alloc, tries, &fields.place)
+        {
             Ok(read) => read,
             Err(e) => return Err(e),
         };
-        let second = first.next(tries);
-        let (signature_algorithm, algorithm_plain) = AlgorithmIdentifier::read_at(
-            alloc, tries, &second,
-        )?;
-        let third = second.next(tries);
-        let signature_value = signature_value_at(&third)?;
+        let fields = fields.behind(tries, tbs_plain);
+        let (fields, signature_algorithm) = fields.field(alloc, tries)?;
+        let signature_value = signature_value_at(&fields.place)?;
         let bytes = place.bytes();
         let certificate = X509Certificate {
             tbs_certificate,
@@ -172,9 +166,6 @@ impl X509CertificateParser {
             signature_value,
             raw: &bytes[..bytes.len() - place.rest().len()],
         };
-        Ok((
-            certificate,
-            tbs_plain & algorithm_plain & third.rest().is_empty(),
-        ))
+        Ok((certificate, fields.ends_here()))
     }
 }

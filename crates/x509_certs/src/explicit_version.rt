@@ -1,23 +1,22 @@
 //! The version in its wrapper (RFC 5280, section 4.1.2.1).
 
-ghost use Rattle.std.specs.Prelude.{◌≡◌, ◌≤◌, ◌+◌, ◌-◌, ◌*◌, true, IfOk, IfErr, min, length};
+ghost use Rattle.std.specs.Prelude.{◌≡◌, ◌≤◌, ◌+◌, ◌-◌, ◌*◌, ◌&&◌, true, IfOk, IfErr, min, length};
+ghost use Rattle.x509_der.specs.Fields.{next_of, plain_in};
 ghost use Rattle.x509_der.specs.Looks.{behind, is_element};
 ghost use Rattle.x509_der.specs.Place.{at};
-ghost use Rattle.x509_der.specs.Promises.{option_view, option_heads};
+ghost use Rattle.x509_der.specs.Promises.{option_view, option_heads, ReadsLeaf};
 ghost use Rattle.x509_der.specs.Reading.{AddsAtLeast, Gives};
 ghost use Rattle.x509_certs.specs.ExplicitVersion.{version_wrapper, wrapped_version, explicit_version};
 
-use x509_der::{Class, Err, Header, Place, Tag, Tries};
+use x509_der::{Class, Err, Fields, Header, Place, Tag, Tries};
 use x509_fields::{X509Error, X509Version};
 
 // The contents of a constructed element.
 #[inline(always)]
 #[tactic(auto, unfolding(crate::specs::ExplicitVersion::version_wrapper, x509_der::specs::Leaves::any, x509_der::specs::Primitives::contents_at))]
 fn version_wrapper_of<'a>(place: &Place<'a>) -> Result<&'a [u8], Err<X509Error>>
-    ensures reads { Gives (λ x. (behind (at place.now), x.now)) result (version_wrapper.read (at place.now)) }
+    ensures reads { ReadsLeaf (λ x. x.now) version_wrapper (at place.now) result }
     ensures marks { version_wrapper.marks (at place.now) ≡ true }
-    ensures there { IfOk result (λ _. is_element (at place.now) ≡ true) }
-    ensures sizes { IfOk result (λ _. length (behind (at place.now)) + 2 ≤ length (at place.now)) }
 {
     let wrapper = place.any().map_err(|e| e.convert())?;
     if !wrapper.header().constructed {
@@ -50,32 +49,32 @@ fn read_wrapped_version<'a>(
     Ok((X509Version(version), inner.rest().is_empty()))
 }
 
-/// The version in its wrapper at a place, absent where another element stands; the place behind it, and its mark.
+/// The version in its wrapper, absent where another element stands.
 #[inline(always)]
 #[tactic(auto, unfolding(crate::specs::ExplicitVersion::explicit_version), using(x509_der::proofs::Marking::marks_of_readers))]
 pub(crate) fn read_version<'a>(
     tries: &mut Tries,
-    place: &Place<'a>,
-) -> Result<(Place<'a>, Option<X509Version>, bool), Err<X509Error>>
-    ensures reads { Gives (λ x. (at x.0, option_view (λ v. v.0) x.1)) result (explicit_version.read (at place.now)) }
-    ensures marks { IfOk result (λ x. x.2 ≡ explicit_version.marks (at place.now)) }
+    fields: &Fields<'a>,
+) -> Result<(Fields<'a>, Option<X509Version>), Err<X509Error>>
+    ensures reads { Gives (λ x. (next_of x.0, option_view (λ v. v.0) x.1)) result (explicit_version.read (next_of fields.now)) }
+    ensures marks { IfOk result (λ x. plain_in x.0 ≡ (plain_in fields.now && explicit_version.marks (next_of fields.now))) }
     ensures grows { tries.old ≤ tries.new }
-    ensures few_tries { IfErr result (λ _. tries.new ≤ tries.old + (8 * length (at place.now) - 8)) }
-    ensures count { IfOk result (λ x. tries.new + length (at x.0) ≤ tries.old + length (at place.now)) }
-    ensures least { IfOk result (λ x. AddsAtLeast (option_heads (λ _. 2) (option_view (λ v. v.0) x.1) + min 1 (length (at x.0)) - min 1 (length (at place.now))) tries.old tries.new) }
+    ensures few_tries { IfErr result (λ _. tries.new ≤ tries.old + (8 * length (next_of fields.now) - 8)) }
+    ensures count { IfOk result (λ x. tries.new + length (next_of x.0) ≤ tries.old + length (next_of fields.now)) }
+    ensures least { IfOk result (λ x. AddsAtLeast (option_heads (λ _. 2) (option_view (λ v. v.0) x.1) + min 1 (length (next_of x.0)) - min 1 (length (next_of fields.now))) tries.old tries.new) }
 {
-    if place.bytes().is_empty() {
-        return Ok((*place, None, true));
+    if fields.are_over() {
+        return Ok((*fields, None));
     }
-    let any = place.any_loose().map_err(|e| e.convert())?;
+    let any = fields.place.any_loose().map_err(|e| e.convert())?;
     match any.header() {
         Header {
             class: Class::ContextSpecific,
             tag: Tag(0),
             ..
         } => {}
-        _ => return Ok((*place, None, true)),
+        _ => return Ok((*fields, None)),
     }
-    let (version, plain) = read_wrapped_version(tries, place)?;
-    Ok((place.next(tries), Some(version), plain))
+    let (version, plain) = read_wrapped_version(tries, &fields.place)?;
+    Ok((fields.behind(tries, plain), Some(version)))
 }

@@ -1,6 +1,6 @@
 //! Reading whole certificates.
 
-ghost use Rattle.std.specs.Prelude.{◌≡◌, ◌<◌, Bool, true, false, IfOk, IfErr};
+ghost use Rattle.std.specs.Prelude.{◌≡◌, ◌<◌, ℕ, Bool, true, false, IfOk, IfErr};
 ghost use Rattle.x509_der.specs.Promises.{Answers, ReadsExactly, is_excused};
 ghost use Rattle.x509_fields.specs.Errors.{is_x509_memory};
 ghost use Rattle.x509_certs.specs.Certificate.{certificate_of, CertificateStands, certificate, certificate_by};
@@ -20,7 +20,7 @@ use x509_fields::{X509Error, X509Result};
 pub fn parse_x509_certificate<'a>(alloc: Global, i: &'a [u8]) -> X509Result<'a, X509Certificate<'a>>
     ensures exact { ReadsExactly is_x509_memory true (λ x. (x.0.now, certificate_of x.1)) (certificate true) i.now result }
     ensures stands { IfOk result (λ x. CertificateStands true i.now (certificate_of x.1) x.0.now) }
-    ensures refused_at_any_depth { IfErr result (λ e. is_excused is_x509_memory true e ≡ false → (deep : Bool) → (certificate deep).Refuses i.now e) }
+    ensures refused_at_any_depth { IfErr result (λ e. is_excused is_x509_memory true e ≡ false → (deep : Bool) → (left : ℕ) × (certificate deep).Refuses i.now e left) }
 {
     X509CertificateParser::new().parse(alloc, i)
 }
@@ -47,7 +47,7 @@ pub fn parse_x509_certificate_strict<'a>(
 pub fn parse_x509_der<'a>(alloc: Global, i: &'a [u8]) -> X509Result<'a, X509Certificate<'a>>
     ensures exact { ReadsExactly is_x509_memory true (λ x. (x.0.now, certificate_of x.1)) (certificate true) i.now result }
     ensures stands { IfOk result (λ x. CertificateStands true i.now (certificate_of x.1) x.0.now) }
-    ensures refused_at_any_depth { IfErr result (λ e. is_excused is_x509_memory true e ≡ false → (deep : Bool) → (certificate deep).Refuses i.now e) }
+    ensures refused_at_any_depth { IfErr result (λ e. is_excused is_x509_memory true e ≡ false → (deep : Bool) → (left : ℕ) × (certificate deep).Refuses i.now e left) }
 {
     parse_x509_certificate(alloc, i)
 }

@@ -1,11 +1,11 @@
 //! Readers of the signed part.
 
-ghost use Rattle.std.specs.Prelude.{◌≡◌, ◌<◌, ◌≤◌, ◌+◌, ◌-◌, ◌*◌, Bool, true, false, IfOk, IfErr, IsErr, length};
-ghost use Rattle.x509_der.specs.Looks.{behind, is_element, CountedBehind};
+ghost use Rattle.std.specs.Prelude.{◌≡◌, ◌<◌, ◌≤◌, ◌+◌, ◌-◌, ◌*◌, ℕ, Bool, true, false, IfOk, IfErr, length};
+ghost use Rattle.x509_der.specs.Looks.{behind};
 ghost use Rattle.x509_der.specs.Place.{at};
 ghost use Rattle.x509_der.specs.Primitives.{is_constructed};
-ghost use Rattle.x509_der.specs.Promises.{Answers, TriesBounded, IsForeign, ReadsExactly, is_excused};
-ghost use Rattle.x509_der.specs.Reading.{AddsAtLeast, strict, loose};
+ghost use Rattle.x509_der.specs.Promises.{Answers, TriesBounded, ReadsAt, ReadsExactly, is_excused};
+ghost use Rattle.x509_der.specs.Reading.{strict, loose};
 ghost use Rattle.x509_fields.specs.Errors.{is_x509_memory};
 ghost use Rattle.x509_extensions.specs.Extension.{value_bytes};
 ghost use Rattle.x509_certs.specs.TbsCertificate.{SignedPartStands, looks_at_values, takes_plain_alone, tbs_of, tbs_heads, tbs, tbs_by};
@@ -85,7 +85,7 @@ impl TbsCertificateParser {
         ensures exact { ReadsExactly is_x509_memory true (λ x. (x.0.now, tbs_of x.1)) (tbs_by (looks_at_values self.now) (takes_plain_alone self.now)) i.now result }
         ensures stands { IfOk result (λ x. SignedPartStands (looks_at_values self.now) i.now (tbs_of x.1) x.0.now) }
         // What is refused at one depth is refused at the other.
-        ensures refused_at_any_depth { takes_plain_alone self.now ≡ false → IfErr result (λ e. is_excused is_x509_memory true e ≡ false → (deep : Bool) → (tbs deep).Refuses i.now e) }
+        ensures refused_at_any_depth { takes_plain_alone self.now ≡ false → IfErr result (λ e. is_excused is_x509_memory true e ≡ false → (deep : Bool) → (left : ℕ) × (tbs deep).Refuses i.now e left) }
     {
         self.read(alloc, &mut Tries::new(), i)
     }
@@ -100,7 +100,7 @@ impl TbsCertificateParser {
     ) -> X509Result<'a, TbsCertificate<'a>>
         ensures reads { Answers is_x509_memory true (λ x. (x.0.now, tbs_of x.1)) result ((tbs_by (looks_at_values self.now) (takes_plain_alone self.now)).read i.now) }
         ensures stands { IfOk result (λ x. SignedPartStands (looks_at_values self.now) i.now (tbs_of x.1) x.0.now) }
-        ensures refused_at_any_depth { takes_plain_alone self.now ≡ false → IfErr result (λ e. is_excused is_x509_memory true e ≡ false → (deep : Bool) → (tbs deep).Refuses i.now e) }
+        ensures refused_at_any_depth { takes_plain_alone self.now ≡ false → IfErr result (λ e. is_excused is_x509_memory true e ≡ false → (deep : Bool) → (left : ℕ) × (tbs deep).Refuses i.now e left) }
         ensures tries { TriesBounded strict (is_constructed 16) tbs_heads (λ x. (x.0.now, tbs_of x.1)) i.now tries.old tries.new result }
         ensures shallow { looks_at_values self.now ≡ false → IfOk result (λ x. tries.new + 8 + 8 * value_bytes ((tbs_of x.1).extensions) + 8 * length x.0.now ≤ tries.old + 8 * length i.now) }
     {
@@ -143,25 +143,19 @@ impl TbsCertificateParser {
         tries: &mut Tries,
         place: &Place<'a>,
     ) -> Result<(TbsCertificate<'a>, bool), Err<X509Error>>
-        ensures reads { Answers is_x509_memory true (λ x. (behind (at place.now), tbs_of x.0)) result ((tbs (looks_at_values self.now)).read (at place.now)) }
-        ensures marks { IfOk result (λ x. x.1 ≡ (tbs (looks_at_values self.now)).marks (at place.now)) }
-        ensures grows { tries.old ≤ tries.new }
-        ensures count { CountedBehind (length (behind (at place.now))) tries.old tries.new (length (at place.now)) result }
-        ensures foreign { IsForeign strict (is_constructed 16) (at place.now) → IsErr result × (tries.new ≤ tries.old) }
-        ensures least { IfOk result (λ x. AddsAtLeast (tbs_heads (tbs_of x.0) - 1) tries.old tries.new) }
-        ensures there { IfOk result (λ _. is_element (at place.now) ≡ true) }
+        ensures reads { ReadsAt is_x509_memory true strict (is_constructed 16) tbs_heads tbs_of (tbs (looks_at_values self.now)) (at place.now) tries.old tries.new result }
         ensures shallow { looks_at_values self.now ≡ false → IfOk result (λ x. tries.new + 9 + 8 * value_bytes ((tbs_of x.0).extensions) + 8 * length (behind (at place.now)) ≤ tries.old + 8 * length (at place.now)) }
     {
         let contents = sequence_at(place)?;
-        let (behind, basic, basic_plain) = match read_basic_fields(alloc, tries, contents) {
-            Ok((behind, basic, plain)) => (behind, basic, plain),
+        let (fields, basic) = match read_basic_fields(alloc, tries, contents) {
+            Ok((fields, basic)) => (fields, basic),
             Err(e) => return Err(e),
         };
-        let (behind, issuer_uid) = read_issuer_uid(tries, &behind)?;
-        let (behind, subject_uid) = read_subject_uid(tries, &behind)?;
+        let (fields, issuer_uid) = read_issuer_uid(tries, &fields)?;
+        let (fields, subject_uid) = read_subject_uid(tries, &fields)?;
         let (extensions, extensions_plain) = self
             .extension_parser
-            .read_wrapped_at(alloc, tries, 3, &behind)?;
+            .read_wrapped_at(alloc, tries, 3, &fields.place)?;
         let bytes = place.bytes();
         let tbs = TbsCertificate {
             version: basic.version.unwrap_or(X509Version::V1),
@@ -177,6 +171,6 @@ impl TbsCertificateParser {
             raw: &bytes[..bytes.len() - place.rest().len()],
             raw_serial: basic.raw_serial,
         };
-        Ok((tbs, basic_plain & extensions_plain))
+        Ok((tbs, fields.plain_so_far() & extensions_plain))
     }
 }

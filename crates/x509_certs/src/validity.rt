@@ -10,7 +10,7 @@ ghost use Rattle.x509_certs.specs.Validity.{Period, period_of, period_heads, val
 
 use jiff::SignedDuration;
 use std::alloc::Global;
-use x509_der::{Err, FromDer, Place, Tries};
+use x509_der::{Err, Fields, FromDer, Place, Tries};
 use x509_fields::{ASN1Time, Clock, X509Error, sequence_at};
 
 const SECONDS_PER_DAY: i64 = 86_400;
@@ -111,18 +111,20 @@ impl<'a> FromDer<'a, X509Error> for Validity {
         place: &Place<'a>,
     ) -> Result<(Self, bool), Err<X509Error>> {
         let contents = sequence_at(place)?;
-        let first = Place::look(tries, contents);
-        let (not_before, before_plain) = ASN1Time::read_at(alloc, tries, &first)?;
-        let second = first.next(tries);
-        let (not_after, after_plain) = ASN1Time::read_at(alloc, tries, &second)?;
+        let fields = Fields::of(tries, contents);
+        let (fields, not_before) = match fields.field(alloc, tries) {
+            Ok((fields, not_before)) => (fields, not_before),
+            Err(e) => return Err(e),
+        };
+        let (not_after, plain) = match fields.last(alloc, tries) {
+            Ok((not_after, plain)) => (not_after, plain),
+            Err(e) => return Err(e),
+        };
         let validity = Validity {
             not_before,
             not_after,
         };
-        Ok((
-            validity,
-            before_plain & after_plain & second.rest().is_empty(),
-        ))
+        Ok((validity, plain))
     }
 
     ghost never_memory = { validity_laws.laws.never_memory };

@@ -26,3 +26,5 @@ pub mod Looks
 pub mod Cutting
 pub mod Octets
 pub mod Rulesets
+pub mod Walk
+pub mod Steps

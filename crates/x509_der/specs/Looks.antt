@@ -1,5 +1,5 @@
 -- What one look at the bytes of a place tells the readers of both forms, and the places of a window.
-use Rattle.std.specs.Prelude.{◌≡◌, ℕ, zero, suc, ◌+◌, ◌*◌, ◌≤◌, ◌-◌, ◌/◌, ◌%◌, ◌^◌, ◌==◌, Bool, true, false, List, Option, Some, None, Result, Ok, Err, if◌then◌else◌}
+use Rattle.std.specs.Prelude.{◌≡◌, ℕ, zero, suc, ◌+◌, ◌*◌, ◌≤◌, ◌-◌, ◌/◌, ◌%◌, ◌^◌, ◌==◌, Bool, true, false, List, Result, Ok, Err, if◌then◌else◌}
 use Rattle.x509_der.specs.declared.error.BerError.{BerError}
 use Rattle.x509_der.specs.declared.error.Err.{Err as Refusal}
 use Rattle.x509_der.specs.declared.error.BerError.TheVariants as kinds
@@ -87,22 +87,3 @@ tried_behind count bytes = if is_element bytes then tried count (behind bytes) e
 abbrev pub CountedBehind : {X F : Type 0} → ℕ → ℕ → ℕ → ℕ → Result X F → Type 0
 CountedBehind left old new n (Ok x) = new + 9 + 8 * left ≤ old + 8 * n
 CountedBehind left old new n (Err e) = new ≤ old + (8 * n - 8)
-
--- the same of a field of children, where the value tells the next place
-abbrev pub CountedNext : {X F : Type 0} → (X → ℕ) → ℕ → ℕ → ℕ → Result X F → Type 0
-CountedNext left old new n (Ok x) = new + 9 + 8 * left x ≤ old + 8 * n
-CountedNext left old new n (Err e) = new ≤ old + (8 * n - 8)
-
-abbrev pub SoftBehindBy : {A : Type 0} → Option A → ℕ → ℕ → ℕ → ℕ → ℕ → ℕ → Type 0
-SoftBehindBy (Some a) k next left old new n = (next ≡ k + 1) × (new + 9 + 8 * left ≤ old + 8 * n)
-SoftBehindBy None k next left old new n = (next ≡ k) × (left ≡ n) × (new ≤ old + (8 * n - 8))
-
--- a soft field: the next place where it stands, and no more than a refusal spends where it is absent
-abbrev pub SoftCountedBehind : {X A F : Type 0} → (X → Option A) → ℕ → (X → ℕ) → (X → ℕ) → ℕ → ℕ → ℕ → Result X F → Type 0
-SoftCountedBehind value k next left old new n (Ok x) = SoftBehindBy (value x) k (next x) (left x) old new n
-SoftCountedBehind value k next left old new n (Err e) = new ≤ old + (8 * n - 8)
-
--- the next place behind a field that may be absent
-abbrev pub IsNext : {A : Type 0} → ℕ → ℕ → ℕ → ℕ → ℕ → Option A → Type 0
-IsNext count k next n left (Some a) = (next ≡ k + 1) × (k + 1 ≤ count) × (left + 2 ≤ n)
-IsNext count k next n left None = (next ≡ k) × (left ≡ n)

@@ -34,33 +34,6 @@ const NO_ENTRY: Entry = Entry {
     fewest: false,
 };
 
-/// The first two elements of a window, each looked at once: the places where they stand, or would stand.
-#[derive(Clone, Copy, Debug)]
-pub struct Two<'a> {
-    pub first: Place<'a>,
-    pub second: Place<'a>,
-}
-
-impl<'a> Two<'a> {
-    ghost use Rattle.x509_der.specs.Place.{at};
-
-    /// Looks at one element after the other: one try for each.
-    #[inline(always)]
-    pub fn cut(tries: &mut Tries, window: &'a [u8]) -> Two<'a>
-        ensures first { at result.first ≡ window.now }
-        ensures second { at result.second ≡ behind window.now }
-        ensures exact { tries.new ≡ tried_behind (tried tries.old window.now) window.now }
-        ensures few { tries.new ≤ tries.old + 2 }
-        ensures grows { tries.old ≤ tries.new }
-        ensures one { is_element (at result.first) ≡ true → AddsAtLeast 1 tries.old tries.new }
-        ensures two { is_element (at result.second) ≡ true → AddsAtLeast 2 tries.old tries.new }
-    {
-        let first = Place::look(tries, window);
-        let second = first.next(tries);
-        Two { first, second }
-    }
-}
-
 /// The first elements of a window, at most `N`, each looked at once, and the place behind them.
 #[derive(Debug, Drop)]
 pub struct Elements<'a, const N: usize> {

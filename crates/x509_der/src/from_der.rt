@@ -1,15 +1,14 @@
 //! The trait of what is read from one element.
 
-ghost use Rattle.std.specs.Prelude.{◌≡◌, ◌≤◌, ◌-◌, ⊤, Bool, true, List, ℕ, IfOk, IsErr, length};
+ghost use Rattle.std.specs.Prelude.{◌≡◌, ◌-◌, ⊤, Bool, List, ℕ, IfOk, length};
 ghost use Rattle.x509_der.specs.declared.error.Err.{Err as Refusal};
 ghost use Rattle.x509_der.specs.declared.header.Header.{Header};
 ghost use Rattle.x509_der.specs.declared.look.Form.{Form};
-ghost use Rattle.x509_der.specs.Looks.{behind, is_element, CountedBehind};
 ghost use Rattle.x509_der.specs.Place.{at};
 ghost use Rattle.x509_der.specs.Plan.{Plan};
 ghost use Rattle.x509_der.specs.Laws.{IsLawful, IsMarked, NeverMemory};
-ghost use Rattle.x509_der.specs.Reading.{AddsAtLeast, tried};
-ghost use Rattle.x509_der.specs.Promises.{Answers, TriesBounded, IsForeign, ReadsExactly};
+ghost use Rattle.x509_der.specs.Reading.{tried};
+ghost use Rattle.x509_der.specs.Promises.{Answers, TriesBounded, ReadsAt, ReadsExactly};
 
 use crate::error::{Err, ReadError};
 use crate::place::Place;
@@ -54,17 +53,7 @@ pub trait FromDer<'a, E: ReadError>: Sized {
     /// Reads the element at a place that was looked at, tells whether it stands plainly, and counts the headers that it tries
     /// beyond that look.
     fn read_at(alloc: Global, tries: &mut Tries, place: &Place<'a>) -> Result<(Self, bool), Err<E>>
-        ensures reads { Answers E.is_memory takes_memory (λ x. (behind (at place.now), view x.0)) result (plan.read (at place.now)) }
-        // Whether none of the loose rules was used.
-        ensures marks { IfOk result (λ x. x.1 ≡ plan.marks (at place.now)) }
-        ensures grows { tries.old ≤ tries.new }
-        // Eight tries for each byte, less what the containers around it need, and less the look at its header.
-        ensures count { CountedBehind (length (behind (at place.now))) tries.old tries.new (length (at place.now)) result }
-        // An element of another tag is tried no more.
-        ensures foreign { IsForeign form own_tag (at place.now) → IsErr result × (tries.new ≤ tries.old) }
-        // Each header of a value but its own.
-        ensures least { IfOk result (λ x. AddsAtLeast (heads (view x.0) - 1) tries.old tries.new) }
-        ensures there { IfOk result (λ _. is_element (at place.now) ≡ true) }
+        ensures reads { ReadsAt E.is_memory takes_memory form own_tag heads view plan (at place.now) tries.old tries.new result }
         ensures tight { tight (at place.now) tries.old tries.new };
 
     /// No refusal of the grammar is want of memory, so that is answered only where memory was refused.
@@ -108,4 +97,40 @@ pub trait FromDer<'a, E: ReadError>: Sized {
         let mut tries = Tries::new();
         Self::read(alloc, &mut tries, i)
     }
+}
+
+/// What reads one element by settings of its own, as a number under which it stands.
+///
+/// It gives what [`FromDer`] gives for a type, but has no laws: what it reads is a field of a structure that has them.
+pub trait ReadAt<'a, E: ReadError, X>: Sized {
+    /// What a value is, without where it lies in memory.
+    ghost Value: { Type 0 };
+
+    ghost view: { X → Value };
+
+    /// Its grammar, by the settings.
+    ghost plan: { Self → Plan (Refusal E) Value };
+
+    ghost form: { Form };
+
+    /// The headers of its own class and number.
+    ghost own_tag: { Self → Header → Bool };
+
+    ghost heads: { Value → ℕ };
+
+    ghost takes_memory: { Bool };
+
+    /// As `tight` of a type.
+    ghost tight: { List ℕ → ℕ → ℕ → Type 0 };
+
+    /// Reads the element at a place that was looked at, tells whether it stands plainly, and counts the headers that it tries
+    /// beyond that look.
+    fn read_at(
+        &self,
+        alloc: Global,
+        tries: &mut Tries,
+        place: &Place<'a>,
+    ) -> Result<(X, bool), Err<E>>
+        ensures reads { ReadsAt E.is_memory takes_memory form (own_tag self.now) heads view (plan self.now) (at place.now) tries.old tries.new result }
+        ensures tight { tight (at place.now) tries.old tries.new };
 }

@@ -7,6 +7,7 @@ mod child;
 mod children;
 mod decimal;
 mod error;
+mod fields;
 mod from_der;
 mod front;
 mod header;
@@ -26,9 +27,10 @@ mod unsigned;
 pub use any::Any;
 pub use bit_string::BitString;
 pub use child::{Child, Stop};
-pub use children::{Children, Elements, Two};
+pub use children::{Children, Elements};
 pub use error::{BerError, Err, ErrorKind, ReadError};
-pub use from_der::FromDer;
+pub use fields::Fields;
+pub use from_der::{FromDer, ReadAt};
 pub use front::{
     read_any, read_any_loose, read_bits, read_bool, read_bool_loose, read_enumerated,
     read_explicit, read_header, read_header_loose, read_ia5, read_implicit, read_implicit_bits,
@@ -42,7 +44,7 @@ pub use laws::{cut_laws, leaf_laws, oid_laws};
 pub use list::Sequence;
 pub use oid::Oid;
 pub use place::Place;
-pub use run::{field_at, read_run, read_run1, read_to_end, soft_at};
+pub use run::{read_run, read_run1, read_to_end};
 pub use set_of::{SetOf, read_set_of};
 pub use tries::Tries;
 pub use unsigned::UnsignedBytes;

@@ -1,14 +1,13 @@
 //! Values of primitive elements and contents of others, at a place that was looked at.
 
-ghost use Rattle.std.specs.Prelude.{◌≡◌, ◌≤◌, ◌+◌, ◌∷◌, true, IfOk, IsErr, length, ◌<◌};
-ghost use Rattle.x509_der.specs.Primitives.{as_refusal, bit_string, bits_of, contents_at, is_constructed, is_implicit, is_primitive, text_of, truth_of, u32_of};
+ghost use Rattle.std.specs.Prelude.{◌≡◌, ◌∷◌, IfOk, ◌<◌};
+ghost use Rattle.x509_der.specs.Primitives.{as_refusal, bit_string, bits_of, is_constructed, is_explicit, is_implicit, is_primitive, text_of, truth_of, u32_of};
 ghost use Rattle.x509_der.specs.Integer.{integer_bytes};
 ghost use Rattle.x509_der.specs.Oid.{oid_bytes};
 ghost use Rattle.x509_der.specs.Unsigned.{unsigned_bytes};
-ghost use Rattle.x509_der.specs.Leaves.{any, any_loose, bool, bool_loose, u32, unsigned, enumerated, integer, octets, oid, bits, utf8, ia5, explicit, implicit, implicit_bits, implicit_u32, sequence, set};
-ghost use Rattle.x509_der.specs.Looks.{behind, is_element};
+ghost use Rattle.x509_der.specs.Leaves.{contents, any, any_loose, bool, bool_loose, u32, unsigned, enumerated, integer, octets, oid, bits, utf8, ia5, explicit, implicit, implicit_bits, implicit_u32, sequence, set};
 ghost use Rattle.x509_der.specs.Place.{at};
-ghost use Rattle.x509_der.specs.Promises.{IsForeign};
+ghost use Rattle.x509_der.specs.Promises.{ReadsLeaf, ReadsContents};
 ghost use Rattle.x509_der.specs.Reading.{element_of, Gives, strict};
 
 use crate::any::Any;
@@ -107,9 +106,7 @@ impl<'a> Place<'a> {
     #[tactic(auto, unfolding(crate::specs::Primitives::contents_at), using(crate::proofs::Octets::primitive_octet))]
     fn primitive(&self, form: Form, tag: Tag) -> Result<&'a [u8], Err<BerError>>
         requires { tag.0 < 31 }
-        ensures reading { Gives (λ x. (behind (at self.now), x.now)) result (contents_at (is_primitive tag.0) form (at self.now)) }
-        ensures there { IfOk result (λ _. is_element (at self.now) ≡ true) }
-        ensures sizes { IfOk result (λ x. length (behind (at self.now)) + length x.now + 2 ≤ length (at self.now)) }
+        ensures { ReadsContents form (is_primitive tag.0) (λ x. x.now) (contents (is_primitive tag.0) form) (at self.now) result }
     {
         let any = self.element(form)?;
         if !is_primitive(self.octet(), tag) {
@@ -123,9 +120,7 @@ impl<'a> Place<'a> {
     #[tactic(auto, unfolding(crate::specs::Primitives::contents_at), using(crate::proofs::Octets::constructed_octet))]
     fn constructed(&self, tag: Tag) -> Result<&'a [u8], Err<BerError>>
         requires { tag.0 < 31 }
-        ensures reading { Gives (λ x. (behind (at self.now), x.now)) result (contents_at (is_constructed tag.0) strict (at self.now)) }
-        ensures there { IfOk result (λ _. is_element (at self.now) ≡ true) }
-        ensures sizes { IfOk result (λ x. length (behind (at self.now)) + length x.now + 2 ≤ length (at self.now)) }
+        ensures { ReadsContents strict (is_constructed tag.0) (λ x. x.now) (contents (is_constructed tag.0) strict) (at self.now) result }
     {
         let any = self.element(Form::Strict)?;
         if !is_constructed(self.octet(), tag) {
@@ -138,9 +133,7 @@ impl<'a> Place<'a> {
     #[inline(always)]
     #[tactic(auto, unfolding(crate::specs::Leaves::any))]
     pub fn any(&self) -> Result<Any<'a>, Err<BerError>>
-        ensures reading { Gives (λ x. (behind (at self.now), element_of x)) result (any.read (at self.now)) }
-        ensures there { IfOk result (λ _. is_element (at self.now) ≡ true) }
-        ensures sizes { IfOk result (λ _. length (behind (at self.now)) + 2 ≤ length (at self.now)) }
+        ensures { ReadsLeaf (λ x. element_of x) any (at self.now) result }
     {
         self.element(Form::Strict)
     }
@@ -149,9 +142,7 @@ impl<'a> Place<'a> {
     #[inline(always)]
     #[tactic(auto, unfolding(crate::specs::Leaves::any_loose))]
     pub fn any_loose(&self) -> Result<Any<'a>, Err<BerError>>
-        ensures reading { Gives (λ x. (behind (at self.now), element_of x)) result (any_loose.read (at self.now)) }
-        ensures there { IfOk result (λ _. is_element (at self.now) ≡ true) }
-        ensures sizes { IfOk result (λ _. length (behind (at self.now)) + 2 ≤ length (at self.now)) }
+        ensures { ReadsLeaf (λ x. element_of x) any_loose (at self.now) result }
     {
         self.element(Form::Loose)
     }
@@ -160,9 +151,7 @@ impl<'a> Place<'a> {
     #[inline(always)]
     #[tactic(auto, unfolding(crate::specs::Leaves::bool))]
     pub fn bool(&self) -> Result<bool, Err<BerError>>
-        ensures reading { Gives (λ x. (behind (at self.now), x)) result (bool.read (at self.now)) }
-        ensures there { IfOk result (λ _. is_element (at self.now) ≡ true) }
-        ensures sizes { IfOk result (λ _. length (behind (at self.now)) + 2 ≤ length (at self.now)) }
+        ensures { ReadsLeaf (λ x. x) bool (at self.now) result }
     {
         truth(self.primitive(Form::Strict, Tag::Boolean)?)
     }
@@ -171,9 +160,7 @@ impl<'a> Place<'a> {
     #[inline(always)]
     #[tactic(auto, unfolding(crate::specs::Leaves::bool_loose))]
     pub fn bool_loose(&self) -> Result<bool, Err<BerError>>
-        ensures reading { Gives (λ x. (behind (at self.now), x)) result (bool_loose.read (at self.now)) }
-        ensures there { IfOk result (λ _. is_element (at self.now) ≡ true) }
-        ensures sizes { IfOk result (λ _. length (behind (at self.now)) + 2 ≤ length (at self.now)) }
+        ensures { ReadsLeaf (λ x. x) bool_loose (at self.now) result }
     {
         match self.primitive(Form::Loose, Tag::Boolean)? {
             [octet] => Ok(*octet != 0),
@@ -185,10 +172,8 @@ impl<'a> Place<'a> {
     #[inline(always)]
     #[tactic(auto, using(crate::proofs::Octets::primitive_octet), unfolding(crate::specs::Leaves::bool_loose, crate::specs::Leaves::bool, crate::specs::Leaves::any_loose, crate::specs::Primitives::contents_at))]
     pub fn bool_marked(&self) -> Result<(bool, bool), Err<BerError>>
-        ensures reading { Gives (λ x. (behind (at self.now), x.0)) result (bool_loose.read (at self.now)) }
+        ensures reads { ReadsLeaf (λ x. x.0) bool_loose (at self.now) result }
         ensures marks { IfOk result (λ x. x.1 ≡ bool_loose.marks (at self.now)) }
-        ensures there { IfOk result (λ _. is_element (at self.now) ≡ true) }
-        ensures sizes { IfOk result (λ _. length (behind (at self.now)) + 2 ≤ length (at self.now)) }
     {
         let (any, strict) = self.any_marked()?;
         if !is_primitive(self.octet(), Tag::Boolean) {
@@ -204,9 +189,7 @@ impl<'a> Place<'a> {
     #[inline(always)]
     #[tactic(auto, unfolding(crate::specs::Leaves::u32))]
     pub fn u32(&self) -> Result<u32, Err<BerError>>
-        ensures reading { Gives (λ x. (behind (at self.now), x)) result (u32.read (at self.now)) }
-        ensures there { IfOk result (λ _. is_element (at self.now) ≡ true) }
-        ensures sizes { IfOk result (λ _. length (behind (at self.now)) + 2 ≤ length (at self.now)) }
+        ensures { ReadsLeaf (λ x. x) u32 (at self.now) result }
     {
         u32_value(self.primitive(Form::Strict, Tag::Integer)?)
     }
@@ -215,9 +198,7 @@ impl<'a> Place<'a> {
     #[inline(always)]
     #[tactic(auto, unfolding(crate::specs::Leaves::enumerated))]
     pub fn enumerated(&self) -> Result<u32, Err<BerError>>
-        ensures reading { Gives (λ x. (behind (at self.now), x)) result (enumerated.read (at self.now)) }
-        ensures there { IfOk result (λ _. is_element (at self.now) ≡ true) }
-        ensures sizes { IfOk result (λ _. length (behind (at self.now)) + 2 ≤ length (at self.now)) }
+        ensures { ReadsLeaf (λ x. x) enumerated (at self.now) result }
     {
         u32_value(self.primitive(Form::Strict, Tag::Enumerated)?)
     }
@@ -226,9 +207,7 @@ impl<'a> Place<'a> {
     #[inline(always)]
     #[tactic(auto, unfolding(crate::specs::Leaves::unsigned))]
     pub fn unsigned(&self) -> Result<UnsignedBytes<'a>, Err<BerError>>
-        ensures reading { Gives (λ x. (behind (at self.now), unsigned_bytes x)) result (unsigned.read (at self.now)) }
-        ensures there { IfOk result (λ _. is_element (at self.now) ≡ true) }
-        ensures sizes { IfOk result (λ _. length (behind (at self.now)) + 2 ≤ length (at self.now)) }
+        ensures { ReadsLeaf (λ x. unsigned_bytes x) unsigned (at self.now) result }
     {
         let contents = self.primitive(Form::Strict, Tag::Integer)?;
         match contents {
@@ -241,9 +220,7 @@ impl<'a> Place<'a> {
     #[inline(always)]
     #[tactic(auto, unfolding(crate::specs::Leaves::integer))]
     pub fn integer(&self) -> Result<Integer<'a>, Err<BerError>>
-        ensures reading { Gives (λ x. (behind (at self.now), integer_bytes x)) result (integer.read (at self.now)) }
-        ensures there { IfOk result (λ _. is_element (at self.now) ≡ true) }
-        ensures sizes { IfOk result (λ _. length (behind (at self.now)) + 2 ≤ length (at self.now)) }
+        ensures { ReadsLeaf (λ x. integer_bytes x) integer (at self.now) result }
     {
         Ok(Integer::new(self.primitive(Form::Strict, Tag::Integer)?))
     }
@@ -252,9 +229,7 @@ impl<'a> Place<'a> {
     #[inline(always)]
     #[tactic(auto, unfolding(crate::specs::Leaves::octets))]
     pub fn octets(&self) -> Result<&'a [u8], Err<BerError>>
-        ensures reading { Gives (λ x. (behind (at self.now), x.now)) result (octets.read (at self.now)) }
-        ensures there { IfOk result (λ _. is_element (at self.now) ≡ true) }
-        ensures sizes { IfOk result (λ x. length (behind (at self.now)) + length x.now + 2 ≤ length (at self.now)) }
+        ensures { ReadsContents strict (is_primitive 4) (λ x. x.now) octets (at self.now) result }
     {
         self.primitive(Form::Strict, Tag::OctetString)
     }
@@ -263,9 +238,7 @@ impl<'a> Place<'a> {
     #[inline(always)]
     #[tactic(auto, unfolding(crate::specs::Leaves::utf8))]
     pub fn utf8(&self) -> Result<&'a str, Err<BerError>>
-        ensures reading { Gives (λ x. (behind (at self.now), x.now)) result (utf8.read (at self.now)) }
-        ensures there { IfOk result (λ _. is_element (at self.now) ≡ true) }
-        ensures sizes { IfOk result (λ _. length (behind (at self.now)) + 2 ≤ length (at self.now)) }
+        ensures { ReadsLeaf (λ x. x.now) utf8 (at self.now) result }
     {
         text(self.primitive(Form::Strict, Tag::Utf8String)?)
     }
@@ -274,9 +247,7 @@ impl<'a> Place<'a> {
     #[inline(always)]
     #[tactic(auto, unfolding(crate::specs::Leaves::ia5))]
     pub fn ia5(&self) -> Result<&'a str, Err<BerError>>
-        ensures reading { Gives (λ x. (behind (at self.now), x.now)) result (ia5.read (at self.now)) }
-        ensures there { IfOk result (λ _. is_element (at self.now) ≡ true) }
-        ensures sizes { IfOk result (λ _. length (behind (at self.now)) + 2 ≤ length (at self.now)) }
+        ensures { ReadsLeaf (λ x. x.now) ia5 (at self.now) result }
     {
         text(self.primitive(Form::Strict, Tag::Ia5String)?)
     }
@@ -285,9 +256,7 @@ impl<'a> Place<'a> {
     #[inline(always)]
     #[tactic(auto, unfolding(crate::specs::Leaves::oid))]
     pub fn oid(&self) -> Result<Oid<'a>, Err<BerError>>
-        ensures reading { Gives (λ x. (behind (at self.now), oid_bytes x)) result (oid.read (at self.now)) }
-        ensures there { IfOk result (λ _. is_element (at self.now) ≡ true) }
-        ensures sizes { IfOk result (λ _. length (behind (at self.now)) + 2 ≤ length (at self.now)) }
+        ensures { ReadsLeaf (λ x. oid_bytes x) oid (at self.now) result }
     {
         Ok(Oid::new(self.primitive(Form::Strict, Tag::Oid)?))
     }
@@ -296,9 +265,7 @@ impl<'a> Place<'a> {
     #[inline(always)]
     #[tactic(auto, unfolding(crate::specs::Leaves::bits))]
     pub fn bits(&self) -> Result<BitString<'a>, Err<BerError>>
-        ensures reading { Gives (λ x. (behind (at self.now), bit_string x)) result (bits.read (at self.now)) }
-        ensures there { IfOk result (λ _. is_element (at self.now) ≡ true) }
-        ensures sizes { IfOk result (λ _. length (behind (at self.now)) + 2 ≤ length (at self.now)) }
+        ensures { ReadsLeaf (λ x. bit_string x) bits (at self.now) result }
     {
         bits(self.primitive(Form::Strict, Tag::BitString)?)
     }
@@ -307,10 +274,7 @@ impl<'a> Place<'a> {
     #[inline(always)]
     #[tactic(auto, unfolding(crate::specs::Leaves::sequence, crate::specs::Primitives::contents_at))]
     pub fn sequence(&self) -> Result<&'a [u8], Err<BerError>>
-        ensures reading { Gives (λ x. (behind (at self.now), x.now)) result (sequence.read (at self.now)) }
-        ensures there { IfOk result (λ _. is_element (at self.now) ≡ true) }
-        ensures sizes { IfOk result (λ x. length (behind (at self.now)) + length x.now + 2 ≤ length (at self.now)) }
-        ensures foreign { IsForeign strict (is_constructed 16) (at self.now) → IsErr result }
+        ensures { ReadsContents strict (is_constructed 16) (λ x. x.now) sequence (at self.now) result }
     {
         self.constructed(Tag::Sequence)
     }
@@ -319,10 +283,7 @@ impl<'a> Place<'a> {
     #[inline(always)]
     #[tactic(auto, unfolding(crate::specs::Leaves::set, crate::specs::Primitives::contents_at))]
     pub fn set(&self) -> Result<&'a [u8], Err<BerError>>
-        ensures reading { Gives (λ x. (behind (at self.now), x.now)) result (set.read (at self.now)) }
-        ensures there { IfOk result (λ _. is_element (at self.now) ≡ true) }
-        ensures sizes { IfOk result (λ x. length (behind (at self.now)) + length x.now + 2 ≤ length (at self.now)) }
-        ensures foreign { IsForeign strict (is_constructed 17) (at self.now) → IsErr result }
+        ensures { ReadsContents strict (is_constructed 17) (λ x. x.now) set (at self.now) result }
     {
         self.constructed(Tag::Set)
     }
@@ -331,9 +292,7 @@ impl<'a> Place<'a> {
     #[inline(always)]
     #[tactic(auto, unfolding(crate::specs::Leaves::explicit, crate::specs::Primitives::contents_at))]
     pub fn explicit(&self, number: u32) -> Result<&'a [u8], Err<BerError>>
-        ensures reading { Gives (λ x. (behind (at self.now), x.now)) result ((explicit number).read (at self.now)) }
-        ensures there { IfOk result (λ _. is_element (at self.now) ≡ true) }
-        ensures sizes { IfOk result (λ x. length (behind (at self.now)) + length x.now + 2 ≤ length (at self.now)) }
+        ensures { ReadsContents strict (is_explicit number) (λ x. x.now) (explicit number) (at self.now) result }
     {
         let any = self.element(Form::Strict)?;
         if !is_context(any.header(), number) || !any.header().constructed {
@@ -346,10 +305,7 @@ impl<'a> Place<'a> {
     #[inline(always)]
     #[tactic(auto, unfolding(crate::specs::Leaves::implicit, crate::specs::Primitives::contents_at))]
     pub fn implicit(&self, number: u32) -> Result<&'a [u8], Err<BerError>>
-        ensures reading { Gives (λ x. (behind (at self.now), x.now)) result ((implicit number).read (at self.now)) }
-        ensures there { IfOk result (λ _. is_element (at self.now) ≡ true) }
-        ensures sizes { IfOk result (λ x. length (behind (at self.now)) + length x.now + 2 ≤ length (at self.now)) }
-        ensures foreign { IsForeign strict (is_implicit number) (at self.now) → IsErr result }
+        ensures { ReadsContents strict (is_implicit number) (λ x. x.now) (implicit number) (at self.now) result }
     {
         let any = self.element(Form::Strict)?;
         if !is_context(any.header(), number) {
@@ -362,9 +318,7 @@ impl<'a> Place<'a> {
     #[inline(always)]
     #[tactic(auto, unfolding(crate::specs::Leaves::implicit_bits, crate::specs::Leaves::implicit))]
     pub fn implicit_bits(&self, number: u32) -> Result<BitString<'a>, Err<BerError>>
-        ensures reading { Gives (λ x. (behind (at self.now), bit_string x)) result ((implicit_bits number).read (at self.now)) }
-        ensures there { IfOk result (λ _. is_element (at self.now) ≡ true) }
-        ensures sizes { IfOk result (λ _. length (behind (at self.now)) + 2 ≤ length (at self.now)) }
+        ensures { ReadsLeaf (λ x. bit_string x) (implicit_bits number) (at self.now) result }
     {
         bits(self.implicit(number)?)
     }
@@ -373,9 +327,7 @@ impl<'a> Place<'a> {
     #[inline(always)]
     #[tactic(auto, unfolding(crate::specs::Leaves::implicit_u32, crate::specs::Leaves::implicit))]
     pub fn implicit_u32(&self, number: u32) -> Result<u32, Err<BerError>>
-        ensures reading { Gives (λ x. (behind (at self.now), x)) result ((implicit_u32 number).read (at self.now)) }
-        ensures there { IfOk result (λ _. is_element (at self.now) ≡ true) }
-        ensures sizes { IfOk result (λ _. length (behind (at self.now)) + 2 ≤ length (at self.now)) }
+        ensures { ReadsLeaf (λ x. x) (implicit_u32 number) (at self.now) result }
     {
         u32_value(self.implicit(number)?)
     }

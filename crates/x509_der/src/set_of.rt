@@ -1,9 +1,8 @@
 //! Members of sets, of which one alone takes no memory.
 
-ghost use Rattle.std.specs.Prelude.{◌≡◌, ◌≤◌, ◌+◌, ◌*◌, ◌∷◌, [], true, map, length, sum_by, IfOk, IfErr, IsOk};
+ghost use Rattle.std.specs.Prelude.{◌≡◌, ◌+◌, ◌*◌, ◌∷◌, [], map, IfOk, IfErr, IsOk};
 ghost use Rattle.x509_der.specs.Plan.{run1};
-ghost use Rattle.x509_der.specs.Reading.{AddsAtLeast};
-ghost use Rattle.x509_der.specs.Promises.{Answers, IsForeign, empty_run};
+ghost use Rattle.x509_der.specs.Promises.{ReadsRun, empty_run};
 
 use crate::error::{Err, ErrorKind, ReadError};
 use crate::from_der::FromDer;
@@ -116,13 +115,7 @@ pub fn read_set_of<'a, E: ReadError, T: FromDer<'a, E> + Drop>(
     tries: &mut Tries,
     i: &'a [u8],
 ) -> Result<(&'a [u8], SetOf<T>, bool), Err<E>>
-    ensures reads { Answers E.is_memory true (λ x. (x.0.now, map T.view x.1)) result ((run1 (empty_run E.of_list) T.plan).read i.now) }
-    ensures marks { IfOk result (λ x. x.2 ≡ (run1 (empty_run E.of_list) T.plan).marks i.now) }
-    ensures grows { tries.old ≤ tries.new }
-    ensures count { tries.new ≤ tries.old + 8 * length i.now }
-    ensures within { IfOk result (λ x. length x.0.now ≤ length i.now) }
-    ensures foreign { IsForeign T.form T.own_tag i.now → tries.new ≤ tries.old + 1 }
-    ensures least { IfOk result (λ x. AddsAtLeast (sum_by T.heads (map T.view x.1)) tries.old tries.new) }
+    ensures { ReadsRun E.is_memory T.form T.own_tag T.heads (λ x. (x.0.now, map T.view x.1)) (λ x. x.2) (run1 (empty_run E.of_list) T.plan) i.now tries.old tries.new result }
 {
     let (rest, first, plain) = match T::read_marked(alloc, tries, i) {
         Ok(read) => read,

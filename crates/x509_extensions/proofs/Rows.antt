@@ -34,7 +34,7 @@ is_row {A} id p make laws row once never =
             (t.1, subst (λ b. IsFront p value b t.1) same (front_read p laws.agrees laws.is_local value t.0 t.1 k t.2))
         | inr t ↦ absurd (never a (refusal_by ber_in t.0) (sym (ap (said_of make) t.1) ∙ sym (says value) ∙ e))
       ];
-      failed = λ value r k h. says value ∙ ap (said_of make) (laws.agrees.refusal value r k h);
+      failed = λ value r left k h. says value ∙ ap (said_of make) (laws.agrees.refusal value r left k h);
     }
 
 pub is_whole_row : {A : Type 0} (id : List ℕ) (p : Field A) (make : A → Parsed) → Agrees p → ((value : List ℕ) → parsed_value id value ≡ said (only_value ((made make p).read value))) → ((x y : A) → make x ≡ make y → x ≡ y) → ((x : A) (r : Refusal BerError) → Failed r ≡ make x → ⊥) → IsWholeRow id p make
@@ -48,5 +48,5 @@ is_whole_row {A} id p make agrees row once never =
             (t.1, subst (λ b. p.Is value b t.1) same (agrees.sound value t.0 t.1 k t.2))
         | inr t ↦ absurd (never a (refusal_by ber_in t.0) (sym (ap (said_of make) t.1) ∙ sym (says value) ∙ e))
       ];
-      failed = λ value r k h. says value ∙ ap (said_of make) (agrees.refusal value r k h);
+      failed = λ value r left k h. says value ∙ ap (said_of make) (agrees.refusal value r left k h);
     }

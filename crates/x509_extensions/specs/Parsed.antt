@@ -1,12 +1,12 @@
 -- What the value of an extension says (RFC 5280, 4.2, 5.2 and 5.3; RFC 6962, 3.3).
-use Rattle.std.specs.Prelude.{◌≡◌, refl, ℕ, List, map, Bool, true, false, Option, Some, None, Result, Ok, Err}
+use Rattle.std.specs.Prelude.{◌≡◌, ◌≤◌, ◌+◌, ◌*◌, refl, ℕ, List, length, IfOk, map, Bool, true, false, Option, Some, None, Result, Ok, Err}
 use Rattle.x509_der.specs.declared.error.BerError.{BerError}
 use Rattle.x509_der.specs.declared.error.BerError.TheVariants as ber
 use Rattle.x509_der.specs.declared.error.Err.{Err as Refusal}
 use Rattle.x509_der.specs.Laws.{IsBytes, IsMarkedField, IsMarkedElement, Anywhere}
 use Rattle.x509_der.specs.Oid.{oid_bytes}
 use Rattle.x509_der.specs.Plan.{Outcome, ◌>>=◌, give, PlainInside, marks_value}
-use Rattle.x509_der.specs.Promises.{IsFront, refusal_by}
+use Rattle.x509_der.specs.Promises.{Answers, IsFront, refusal_by}
 use Rattle.x509_der.specs.Unsigned.{unsigned_bytes}
 use Rattle.x509_der.proofs.Marked.{value_told}
 use Rattle.x509_der.proofs.Marking.{marked}
@@ -157,6 +157,14 @@ abbrev pub only_value : {F A : Type 0} → Outcome F A → Result A F
 only_value (Ok x) = Ok x.1
 only_value (Err r) = Err r
 
+-- What a reader of a value gives: the value at the front of the bytes, whether it stands plainly with nothing behind it, and at most
+-- eight tries for each byte.
+pub record ReadsValue {A X : Type 0} (takes_memory : Bool) (view : X → A) (plan : Field A) (bytes : List ℕ) (old new : ℕ) (result : Result (X × Bool) (Refusal X509Error)) : Type 0 where
+  pub reads : Answers is_x509_memory takes_memory (λ x. view x.0) result (only_value (plan.read bytes))
+  pub marks : IfOk result (λ x. x.1 ≡ marks_value plan bytes)
+  pub grows : old ≤ new
+  pub count : new ≤ old + 8 * length bytes
+
 -- what is read says what it is; what can't be read says why
 abbrev pub said : Result Parsed (Refusal X509Error) → Parsed
 said (Ok p) = p
@@ -232,10 +240,10 @@ value_told_plain id value k = told_by (kind_of id) value k
 pub record IsRow {A : Type 0} (id : List ℕ) (plan : Field A) (make : A → Parsed) : Type 0 where
   pub accepted : (value : List ℕ) (a : A) (rest : List ℕ) → IsBytes value → IsFront plan value a rest → parsed_value id value ≡ make a
   pub only : (value : List ℕ) (a : A) → IsBytes value → parsed_value id value ≡ make a → (rest : List ℕ) × IsFront plan value a rest
-  pub failed : (value : List ℕ) (r : Refusal X509Error) → IsBytes value → plan.Refuses value r → parsed_value id value ≡ Failed (refusal_by ber_in r)
+  pub failed : (value : List ℕ) (r : Refusal X509Error) (left : ℕ) → IsBytes value → plan.Refuses value r left → parsed_value id value ≡ Failed (refusal_by ber_in r)
 
 -- The same of a plan that may take in all the bytes of its place.
 pub record IsWholeRow {A : Type 0} (id : List ℕ) (plan : Field A) (make : A → Parsed) : Type 0 where
   pub accepted : (value : List ℕ) (a : A) (rest : List ℕ) → IsBytes value → plan.Is value a rest → parsed_value id value ≡ make a
   pub only : (value : List ℕ) (a : A) → IsBytes value → parsed_value id value ≡ make a → (rest : List ℕ) × plan.Is value a rest
-  pub failed : (value : List ℕ) (r : Refusal X509Error) → IsBytes value → plan.Refuses value r → parsed_value id value ≡ Failed (refusal_by ber_in r)
+  pub failed : (value : List ℕ) (r : Refusal X509Error) (left : ℕ) → IsBytes value → plan.Refuses value r left → parsed_value id value ≡ Failed (refusal_by ber_in r)

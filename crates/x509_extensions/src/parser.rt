@@ -1,10 +1,11 @@
 //! Readers of extensions, which look at the values or leave them alone.
 
-ghost use Rattle.std.specs.Prelude.{◌≡◌, ◌<◌, ◌≤◌, ◌+◌, ◌-◌, ◌*◌, true, false, IfOk, IsErr, length};
-ghost use Rattle.x509_der.specs.Looks.{behind, is_element, CountedBehind};
+ghost use Rattle.std.specs.Prelude.{◌≡◌, ◌≤◌, ◌+◌, ◌-◌, ◌*◌, true, false, IfOk, IsErr, length};
+ghost use Rattle.x509_der.specs.Looks.{behind, is_element};
 ghost use Rattle.x509_der.specs.Place.{at};
 ghost use Rattle.x509_der.specs.Primitives.{is_constructed};
-ghost use Rattle.x509_der.specs.Promises.{Answers, ReadsExactly, TriesBounded, IsForeign};
+ghost use Rattle.x509_der.specs.Promises.{Answers, OneTryEach, ReadsAt, ReadsExactly, TriesBounded, IsForeign};
+ghost use Rattle.x509_der.specs.Leaves.{sequence as leaf_sequence};
 ghost use Rattle.x509_der.specs.Reading.{Gives, AddsAtLeast, strict};
 ghost use Rattle.x509_fields.specs.Errors.{is_x509_memory};
 ghost use Rattle.x509_extensions.specs.Extension.{extension_of, extension_heads, envelope_of, envelope_fields, envelope, extension};
@@ -12,7 +13,7 @@ ghost use Rattle.x509_extensions.specs.Extension.{extension_of, extension_heads,
 use crate::extension::X509Extension;
 use crate::parsed::{ParsedExtension, parse_value};
 use std::alloc::Global;
-use x509_der::{Err, Oid, Place, Tries};
+use x509_der::{Err, Fields, Oid, Place, Tries};
 use x509_fields::{X509Error, X509Result, sequence_at};
 
 /// Reads extensions, with or without what their values say.
@@ -109,13 +110,7 @@ impl X509ExtensionParser {
         tries: &mut Tries,
         place: &Place<'a>,
     ) -> Result<(X509Extension<'a>, bool), Err<X509Error>>
-        ensures reads { Answers is_x509_memory true (λ x. (behind (at place.now), extension_of x.0)) result ((extension self.now.deep_parse_extensions).read (at place.now)) }
-        ensures marks { IfOk result (λ x. x.1 ≡ (extension self.now.deep_parse_extensions).marks (at place.now)) }
-        ensures grows { tries.old ≤ tries.new }
-        ensures count { CountedBehind (length (behind (at place.now))) tries.old tries.new (length (at place.now)) result }
-        ensures foreign { IsForeign strict (is_constructed 16) (at place.now) → IsErr result × (tries.new ≤ tries.old) }
-        ensures least { IfOk result (λ x. AddsAtLeast (extension_heads (extension_of x.0) - 1) tries.old tries.new) }
-        ensures there { IfOk result (λ _. is_element (at place.now) ≡ true) }
+        ensures reads { ReadsAt is_x509_memory true strict (is_constructed 16) extension_heads extension_of (extension self.now.deep_parse_extensions) (at place.now) tries.old tries.new result }
         ensures shallow { self.now.deep_parse_extensions ≡ false → IfOk result (λ x. tries.new + 9 + 8 * length x.0.value.now + 8 * length (behind (at place.now)) ≤ tries.old + 8 * length (at place.now)) }
     {
         let (envelope, envelope_plain) = read_envelope(tries, place)?;
@@ -154,7 +149,7 @@ pub(crate) struct Envelope<'a> {
 
 // The three fields of an extension, with the refusals of each.
 #[inline(always)]
-#[tactic(auto, unfolding(crate::specs::Extension::envelope_fields), using(x509_der::proofs::Marking::marks_of_readers))]
+#[tactic(auto, unfolding(crate::specs::Extension::envelope_fields), using(x509_der::proofs::Steps::marks_of_fields))]
 fn read_envelope_fields<'a>(
     tries: &mut Tries,
     place: &Place<'a>,
@@ -166,23 +161,21 @@ fn read_envelope_fields<'a>(
     ensures few_tries { tries.new ≤ tries.old + (8 * length (at place.now) - 8) }
     ensures foreign { IsForeign strict (is_constructed 16) (at place.now) → IsErr result × (tries.new ≤ tries.old) }
     ensures least { IfOk result (λ x. AddsAtLeast (extension_heads (envelope_of x.0) - 1) tries.old tries.new) }
+    // Each child of the envelope is looked at once.
+    ensures once { OneTryEach leaf_sequence (at place.now) tries.old tries.new }
     ensures there { IfOk result (λ _. is_element (at place.now) ≡ true) }
 {
     let contents = sequence_at(place)?;
-    let first = Place::look(tries, contents);
-    let oid = first.oid().map_err(|e| e.convert())?;
-    let second = first.next(tries);
-    let (last, critical, plain) = match second.bool_marked() {
-        Ok((critical, plain)) => (second.next(tries), critical, plain),
-        Err(_) => (second, false, true),
-    };
-    let value = last.octets().map_err(|e| e.convert())?;
+    let fields = Fields::of(tries, contents);
+    let (fields, oid) = fields.oid(tries).map_err(|e| e.convert())?;
+    let (fields, critical) = fields.soft_bool_loose(tries);
+    let value = fields.place.octets().map_err(|e| e.convert())?;
     let envelope = Envelope {
         oid,
-        critical,
+        critical: critical.unwrap_or(false),
         value,
     };
-    Ok((envelope, plain & last.rest().is_empty()))
+    Ok((envelope, fields.ends_here()))
 }
 
 // The same, with one refusal for all.

@@ -3,14 +3,15 @@
 ghost use Rattle.std.specs.Prelude.{◌≡◌, Option, false};
 ghost use Rattle.x509_der.specs.Oid.{oid_bytes};
 ghost use Rattle.x509_der.specs.Primitives.{is_constructed};
-ghost use Rattle.x509_der.specs.Promises.{option_view};
+ghost use Rattle.x509_der.specs.Leaves.{sequence};
+ghost use Rattle.x509_der.specs.Promises.{option_view, OneTryEach};
 ghost use Rattle.x509_der.specs.Reading.{element_of, strict};
 ghost use Rattle.x509_fields.specs.Algorithm.{Algorithm, algorithm_of, algorithm_heads, algorithm, algorithm_laws};
 
 use crate::error::X509Error;
 use crate::structure::sequence_at;
 use std::alloc::Global;
-use x509_der::{Any, Err, FromDer, Oid, Place, Tries};
+use x509_der::{Any, Err, Fields, FromDer, Oid, Place, Tries};
 
 /// An algorithm and its parameters, where they stand (RFC 5280, section 4.1.1.2).
 ///
@@ -72,6 +73,8 @@ impl<'a> FromDer<'a, X509Error> for AlgorithmIdentifier<'a> {
 
     ghost takes_memory = { false };
 
+    ghost tight = { OneTryEach sequence };
+
     #[inline(always)]
     #[tactic(auto, unfolding(crate::specs::Algorithm::algorithm), using(x509_der::proofs::Marking::marks_of_readers))]
     fn read_at(
@@ -80,20 +83,19 @@ impl<'a> FromDer<'a, X509Error> for AlgorithmIdentifier<'a> {
         place: &Place<'a>,
     ) -> Result<(Self, bool), Err<X509Error>> {
         let contents = sequence_at(place)?;
-        let first = Place::look(tries, contents);
-        let algorithm = first
-            .oid()
+        let fields = Fields::of(tries, contents);
+        let (fields, algorithm) = fields
+            .oid(tries)
             .map_err(|_| Err::Error(X509Error::InvalidAlgorithmIdentifier))?;
-        let second = first.next(tries);
-        let (tail, parameters) = match second.any() {
-            Ok(any) => (second.rest(), Some(any)),
-            Err(_) => (second.bytes(), None),
+        let (parameters, plain) = match fields.place.any() {
+            Ok(any) => (Some(any), fields.ends_here()),
+            Err(_) => (None, fields.are_plain()),
         };
         let identifier = AlgorithmIdentifier {
             algorithm,
             parameters,
         };
-        Ok((identifier, tail.is_empty()))
+        Ok((identifier, plain))
     }
 
     ghost never_memory = { algorithm_laws.laws.never_memory };

@@ -27,11 +27,12 @@ got_or_failed b place _ = got b place
 -- No field: where a plan refuses an element that isn't cut short, no other reading helps.
 abbrev pub unless_refused : {E A B : Type 0} → Plan (Refusal E) A → B → Plan (Refusal E) B
 unless_refused {E} p value = record {
-  Is = λ place b next. (value ≡ b) × (place ≡ next) × ((e : E) → p.Refuses place (refusals.Error e) → ⊥);
-  Plain = λ place b next. (value ≡ b) × (place ≡ next) × ((e : E) → p.Refuses place (refusals.Error e) → ⊥);
-  Refuses = λ place r. (e : E) × p.Refuses place (refusals.Error e) × (refusals.Failure e ≡ r);
+  Is = λ place b next. (value ≡ b) × (place ≡ next) × ((e : E) (left : ℕ) → p.Refuses place (refusals.Error e) left → ⊥);
+  Plain = λ place b next. (value ≡ b) × (place ≡ next) × ((e : E) (left : ℕ) → p.Refuses place (refusals.Error e) left → ⊥);
+  Refuses = λ place r left. (e : E) × p.Refuses place (refusals.Error e) left × (refusals.Failure e ≡ r);
   read = λ place. got_or_failed value place (p.read place);
   marks = λ place. true;
+  stop = λ more. p.stop more;
 }
 
 -- behind these names stands no misspelled element and none of another class

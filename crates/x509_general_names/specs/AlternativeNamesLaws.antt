@@ -8,7 +8,7 @@ use Rattle.x509_der.specs.declared.error.Err.TheVariants as refusals
 use Rattle.x509_der.specs.Elements.{ElementIs}
 use Rattle.x509_der.specs.Laws.{IsBytes, Agrees, IsMarkedElement, IsMarkedField, AtEnd}
 use Rattle.x509_der.specs.Leaves.{any}
-use Rattle.x509_der.specs.Plan.{Outcome, Plan, got}
+use Rattle.x509_der.specs.Plan.{Outcome, Plan, got, added}
 use Rattle.x509_der.specs.Primitives.{is_context}
 use Rattle.x509_der.specs.Promises.{refusal_by}
 use Rattle.x509_der.specs.Reading.{Element, strict}
@@ -27,15 +27,17 @@ use Rattle.x509_general_names.specs.AlternativeNames.{got_or_failed, unless_refu
 abbrev refusing : {E A : Type 0} → Refusal E → Outcome (Refusal E) A
 refusing r = Err r
 
-not_error : {E A : Type 0} (p : Plan (Refusal E) A) → Agrees p → (place : List ℕ) → IsBytes place → (o : Outcome (Refusal E) A) → p.read place ≡ o → ((e : E) → o ≡ refusing (refusals.Error e) → ⊥) → (e : E) → p.Refuses place (refusals.Error e) → ⊥
-not_error p hp place k o is never e refuses = never e (sym is ∙ hp.refusal place (refusals.Error e) k refuses)
+not_error : {E A : Type 0} (p : Plan (Refusal E) A) → Agrees p → (place : List ℕ) → IsBytes place → (o : Outcome (Refusal E) A) → p.read place ≡ o → ((e : E) → o ≡ refusing (refusals.Error e) → ⊥) → (e : E) (left : ℕ) → p.Refuses place (refusals.Error e) left → ⊥
+not_error p hp place k o is never e left refuses = never e (sym is ∙ hp.refusal place (refusals.Error e) left k refuses)
 
 unless_refused_agrees : {E A B : Type 0} (p : Plan (Refusal E) A) (value : B) → Agrees p → Agrees (unless_refused p value)
 unless_refused_agrees {E} {A} {B} p value hp = record {
   sound = λ place b next k e. sound_part place b next k (p.read place) refl e;
   complete = λ place b next k h. complete_part place b next k h (p.read place) refl;
   refused = λ place r k e. refused_part place r k (p.read place) refl e;
-  refusal = λ place r k h. ap (got_or_failed value place) (hp.refusal place (refusals.Error h.0) k h.1) ∙ ap (λ (r : Refusal E). refusing {A = B} r) h.2;
+  refusal = λ place r left k h. ap (got_or_failed value place) (hp.refusal place (refusals.Error h.0) left k h.1) ∙ ap (λ (r : Refusal E). refusing {A = B} r) h.2;
+  stops = λ more acts place r left outside k h. hp.stops more acts place (refusals.Error h.0) left outside k h.1;
+  inside = λ place r left k h. hp.inside place (refusals.Error h.0) left k h.1;
 }
   where
     sound_part : (place : List ℕ) (b : B) (next : List ℕ) → IsBytes place → (o : Outcome (Refusal E) A) → p.read place ≡ o → got_or_failed value place o ≡ got b next → (unless_refused p value).Is place b next
@@ -50,23 +52,23 @@ unless_refused_agrees {E} {A} {B} p value hp = record {
     complete_part : (place : List ℕ) (b : B) (next : List ℕ) → IsBytes place → (unless_refused p value).Is place b next → (o : Outcome (Refusal E) A) → p.read place ≡ o → got_or_failed value place o ≡ got b next
     complete_part place b next k h (Ok x) is = same_got place b next h.0 h.1
     complete_part place b next k h (Err refusals.Incomplete) is = same_got place b next h.0 h.1
-    complete_part place b next k h (Err (refusals.Error w)) is = absurd (h.2 w (hp.refused place (refusals.Error w) k is))
+    complete_part place b next k h (Err (refusals.Error w)) is = absurd (h.2 w (p.stop added place 0) (hp.refused place (refusals.Error w) k is))
     complete_part place b next k h (Err (refusals.Failure w)) is = same_got place b next h.0 h.1
 
-    refused_part : (place : List ℕ) (r : Refusal E) → IsBytes place → (o : Outcome (Refusal E) A) → p.read place ≡ o → got_or_failed value place o ≡ Err r → (unless_refused p value).Refuses place r
+    refused_part : (place : List ℕ) (r : Refusal E) → IsBytes place → (o : Outcome (Refusal E) A) → p.read place ≡ o → got_or_failed value place o ≡ Err r → (unless_refused p value).Refuses place r (p.stop added place 0)
     refused_part place r k (Ok x) is e = absurd (got_not_err value place r e)
     refused_part place r k (Err refusals.Incomplete) is e = absurd (got_not_err value place r e)
     refused_part place r k (Err (refusals.Error w)) is e = (w, hp.refused place (refusals.Error w) k is, cc)
     refused_part place r k (Err (refusals.Failure w)) is e = absurd (got_not_err value place r e)
 
-unless_refused_laws : {E A B : Type 0} (is_memory : E → Bool) (At : List ℕ → Type 0) (p : Plan (Refusal E) A) (value : B) → Agrees p → ((place : List ℕ) (e : E) → IsBytes place → p.Refuses place (refusals.Error e) → is_memory e ≡ false) → IsMarkedField is_memory At (unless_refused p value)
+unless_refused_laws : {E A B : Type 0} (is_memory : E → Bool) (At : List ℕ → Type 0) (p : Plan (Refusal E) A) (value : B) → Agrees p → ((place : List ℕ) (e : E) (left : ℕ) → IsBytes place → p.Refuses place (refusals.Error e) left → is_memory e ≡ false) → IsMarkedField is_memory At (unless_refused p value)
 unless_refused_laws {E} is_memory At p value hp own =
     let agrees = unless_refused_agrees p value hp in
     record {
       field = record {
         agrees = agrees;
         within = record { front = λ place b next k e. ([], (agrees.sound place b next k e).1) };
-        never_memory = record { refusal = λ place r k e. let h = agrees.refused place r k e in rw (← h.2) (own place h.0 k h.1) };
+        never_memory = record { refusal = λ place r k e. let h = agrees.refused place r k e in rw (← h.2) (own place h.0 _ k h.1) };
       };
       marks = record { is = λ place b next k h. h; told = λ place b next k e at m. agrees.sound place b next k e; marked = λ place b next k h. refl };
     }
@@ -87,10 +89,10 @@ other_class true a e same = absurd cc
 other_class false a e same = let is : Der ber.InvalidTag ≡ e = cc in rw (← is) refl
 
 -- an element that isn't cut short is refused for what is wrong with it
-refused_element : (place : List ℕ) (e : X509Error) → IsBytes place → context_element.Refuses place (refusals.Error e) → is_x509_memory e ≡ false
+refused_element : (place : List ℕ) (e : X509Error) (left : ℕ) → IsBytes place → context_element.Refuses place (refusals.Error e) left → is_x509_memory e ≡ false
 unfolding context_element any
-refused_element place e k refuses = elim refuses [
-  | inl h ↦ renamed_error place h.0 e h.1 h.2
+refused_element place e left k refuses = elim refuses [
+  | inl h ↦ renamed_error place h.0 e h.1.0 h.2
   | inr h ↦ other_class (is_context h.0.header.class) h.0 e h.3
 ]
 

@@ -1,11 +1,10 @@
 //! Other names of a subject and of an issuer.
 
-ghost use Rattle.std.specs.Prelude.{◌≡◌, ◌≤◌, ◌+◌, ◌-◌, List, [], IfOk, IsErr, length, map, true};
-ghost use Rattle.x509_der.specs.Looks.{behind, is_element, CountedBehind};
+ghost use Rattle.std.specs.Prelude.{◌≤◌, ◌+◌, List, [], map, true};
 ghost use Rattle.x509_der.specs.Place.{at};
 ghost use Rattle.x509_der.specs.Primitives.{is_constructed};
-ghost use Rattle.x509_der.specs.Promises.{Answers, IsForeign};
-ghost use Rattle.x509_der.specs.Reading.{AddsAtLeast, Gives, strict};
+ghost use Rattle.x509_der.specs.Promises.{ReadsAt};
+ghost use Rattle.x509_der.specs.Reading.{Gives, strict};
 ghost use Rattle.x509_fields.specs.Errors.{is_x509_memory};
 ghost use Rattle.x509_general_names.specs.GeneralName.{GeneralNameValue, general_name_of};
 ghost use Rattle.x509_general_names.specs.AlternativeNames.{subject_names_of, issuer_names_of, end_of_names, general_names, general_names_heads};
@@ -127,13 +126,7 @@ fn names_at<'a>(
     tries: &mut Tries,
     place: &Place<'a>,
 ) -> Result<(Sequence<GeneralName<'a>>, bool), Err<X509Error>>
-    ensures reads { Answers is_x509_memory true (λ x. (behind (at place.now), map general_name_of x.0)) result (general_names.read (at place.now)) }
-    ensures marks { IfOk result (λ x. x.1 ≡ general_names.marks (at place.now)) }
-    ensures grows { tries.old ≤ tries.new }
-    ensures count { CountedBehind (length (behind (at place.now))) tries.old tries.new (length (at place.now)) result }
-    ensures foreign { IsForeign strict (is_constructed 16) (at place.now) → IsErr result × (tries.new ≤ tries.old) }
-    ensures least { IfOk result (λ x. AddsAtLeast (general_names_heads (map general_name_of x.0) - 1) tries.old tries.new) }
-    ensures there { IfOk result (λ _. is_element (at place.now) ≡ true) }
+    ensures { ReadsAt is_x509_memory true strict (is_constructed 16) general_names_heads (λ x. map general_name_of x) general_names (at place.now) tries.old tries.new result }
 {
     let contents = sequence_at(place)?;
     let (rest, names, plain) = read_run(alloc, tries, contents)?;

@@ -1,14 +1,14 @@
 //! General names.
 
-ghost use Rattle.std.specs.Prelude.{◌≡◌, ◌≤◌, ◌+◌, ◌-◌, ◌*◌, ℕ, Some, None, Ok, IfOk, IfSome, IsErr, length, true, if◌then◌else◌};
+ghost use Rattle.std.specs.Prelude.{◌≡◌, ◌≤◌, ◌+◌, ◌-◌, ◌*◌, Some, None, Ok, IfOk, IfSome, IsErr, length, true};
 ghost use Rattle.std.specs.Option.{is_some};
 ghost use Rattle.x509_der.specs.Hex.{hex_text};
 ghost use Rattle.x509_der.specs.Plan.{reads_inside};
 ghost use Rattle.x509_der.specs.Primitives.{is_context};
-ghost use Rattle.x509_der.specs.Promises.{Answers, IsForeign, option_view};
-ghost use Rattle.x509_der.specs.Looks.{behind, is_element};
+ghost use Rattle.x509_der.specs.Promises.{Answers, IsForeign, ReadsLeaf, option_view};
+ghost use Rattle.x509_der.specs.Looks.{behind};
 ghost use Rattle.x509_der.specs.Place.{at};
-ghost use Rattle.x509_der.specs.Reading.{AddsAtLeast, Gives, Element, element_of, strict};
+ghost use Rattle.x509_der.specs.Reading.{AddsAtLeast, element_of, strict};
 ghost use Rattle.x509_fields.specs.Errors.{is_x509_memory};
 ghost use Rattle.x509_general_names.specs.Addresses.{IsAddressIn};
 ghost use Rattle.x509_general_names.specs.GeneralName.{GeneralNameValue, general_name_of, general_name, general_name_heads, general_name_text, alternative, other_name, directory_name, alternative_in, name_inside, value_read, named, general_name_in, GivesName, context_element, hex_pairs, utf8_in};
@@ -144,8 +144,7 @@ impl TryClone for GeneralName<'_> {
 #[inline(always)]
 #[tactic(auto, unfolding(crate::specs::GeneralName::context_element, x509_der::specs::Leaves::any))]
 pub(crate) fn context_at<'a>(place: &Place<'a>) -> Result<Any<'a>, Err<X509Error>>
-    ensures reads { Gives (λ x. (behind (at place.now), element_of x)) result (context_element.read (at place.now)) }
-    ensures there { IfOk result (λ _. is_element (at place.now) ≡ true) }
+    ensures reads { ReadsLeaf (λ x. element_of x) context_element (at place.now) result }
     ensures sizes { IfOk result (λ x. length (behind (at place.now)) + length (element_of x).contents + 2 ≤ length (at place.now)) }
     ensures foreign { IsForeign strict (λ h. is_context h.class) (at place.now) → IsErr result }
 {

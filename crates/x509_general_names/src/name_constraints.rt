@@ -1,20 +1,14 @@
 //! Which names a certification authority may certify.
 
-ghost use Rattle.std.specs.Prelude.{◌≡◌, ◌<◌, ◌≤◌, ◌+◌, ◌-◌, List, IfOk, IsErr, length, true};
-ghost use Rattle.x509_der.specs.Children.{window_of, count_of};
-ghost use Rattle.x509_der.specs.Looks.{behind, is_element, place_at, CountedBehind, SoftCountedBehind};
-ghost use Rattle.x509_der.specs.Place.{at};
-ghost use Rattle.x509_der.specs.Plan.{soft, context};
+ghost use Rattle.std.specs.Prelude.{List, true, ⊤};
 ghost use Rattle.x509_der.specs.Primitives.{is_constructed, is_explicit};
-ghost use Rattle.x509_der.specs.Promises.{Answers, IsForeign, option_view, option_heads};
-ghost use Rattle.x509_der.specs.Reading.{AddsAtLeast, strict};
-ghost use Rattle.x509_fields.specs.Errors.{is_x509_memory};
+ghost use Rattle.x509_der.specs.Reading.{strict};
 ghost use Rattle.x509_general_names.specs.GeneralName.{GeneralNameValue};
 ghost use Rattle.x509_general_names.specs.NameConstraints.{subtree_of, subtrees_of, Constraints, constraints_of, general_subtree, general_subtrees, name_constraints, subtree_heads, subtrees_heads, constraints_heads, general_subtree_laws, name_constraints_laws};
 
 use crate::general_name::GeneralName;
 use std::alloc::Global;
-use x509_der::{Elements, Err, ErrorKind, FromDer, Place, Sequence, Tries, read_run};
+use x509_der::{Err, ErrorKind, Fields, FromDer, Place, ReadAt, Sequence, Tries, read_run};
 use x509_fields::{TryClone, X509Error, sequence_at};
 use x509_parts::list_error;
 
@@ -79,15 +73,14 @@ impl<'a> FromDer<'a, X509Error> for NameConstraints<'a> {
         place: &Place<'a>,
     ) -> Result<(Self, bool), Err<X509Error>> {
         let contents = sequence_at(place)?;
-        let children: Elements<'_, 2> = Elements::cut(tries, contents);
-        let (k, permitted_subtrees, first) = soft_subtrees_at(alloc, tries, &children, 0, 0)?;
-        let (k, excluded_subtrees, second) = soft_subtrees_at(alloc, tries, &children, k, 1)?;
-        let tail = children.at(k);
+        let fields = Fields::of(tries, contents);
+        let (fields, permitted_subtrees) = fields.soft_by(&Subtrees { number: 0 }, alloc, tries)?;
+        let (fields, excluded_subtrees) = fields.soft_by(&Subtrees { number: 1 }, alloc, tries)?;
         let constraints = NameConstraints {
             permitted_subtrees,
             excluded_subtrees,
         };
-        Ok((constraints, first & second & tail.bytes().is_empty()))
+        Ok((constraints, fields.are_plain()))
     }
 
     ghost never_memory = { name_constraints_laws.laws.never_memory };
@@ -144,59 +137,44 @@ impl TryClone for GeneralSubtree<'_> {
     }
 }
 
-// Subtrees that may be absent, at a place of children, with the number of the next place and their mark.
-#[inline(always)]
-fn soft_subtrees_at<'a>(
-    alloc: Global,
-    tries: &mut Tries,
-    children: &Elements<'a, 2>,
-    k: usize,
+/// Subtrees under the context tag of this number, at least one and to its end.
+#[derive(Clone, Copy)]
+struct Subtrees {
     number: u32,
-) -> Result<(usize, Option<Sequence<GeneralSubtree<'a>>>, bool), Err<X509Error>>
-    requires { k < 2 }
-    ensures reads { Answers is_x509_memory true (λ x. (place_at (window_of children.now) x.0, option_view subtrees_of x.1)) result ((soft (context number) (general_subtrees number)).read (place_at (window_of children.now) k)) }
-    ensures marks { IfOk result (λ x. x.2 ≡ (soft (context number) (general_subtrees number)).marks (place_at (window_of children.now) k)) }
-    ensures next { IfOk result (λ x. x.0 ≤ k + 1) }
-    ensures within { k ≤ count_of children.now → IfOk result (λ x. x.0 ≤ count_of children.now) }
-    ensures grows { tries.old ≤ tries.new }
-    ensures count { SoftCountedBehind (λ x. x.1) k (λ x. x.0) (λ x. length (place_at (window_of children.now) x.0)) tries.old tries.new (length (place_at (window_of children.now) k)) result }
-    ensures foreign { IsForeign strict (is_explicit number) (place_at (window_of children.now) k) → tries.new ≤ tries.old }
-    ensures least { IfOk result (λ x. AddsAtLeast (option_heads subtrees_heads (option_view subtrees_of x.1) - 1) tries.old tries.new) }
-{
-    match subtrees_at(alloc, tries, &children.at(k), number) {
-        Ok((subtrees, plain)) => Ok((k + 1, Some(subtrees), plain)),
-        Err(why) => {
-            if why.is_out_of_memory() {
-                return Err(why);
-            }
-            Ok((k, None, true))
-        }
-    }
 }
 
-// Subtrees under this context tag, at least one and to its end, and their mark.
-#[tactic(auto, unfolding(crate::specs::NameConstraints::general_subtrees, x509_der::specs::Leaves::explicit, x509_der::specs::Primitives::contents_at), using(x509_der::proofs::Marking::marks_of_readers))]
-fn subtrees_at<'a>(
-    alloc: Global,
-    tries: &mut Tries,
-    place: &Place<'a>,
-    number: u32,
-) -> Result<(Sequence<GeneralSubtree<'a>>, bool), Err<X509Error>>
-    ensures reads { Answers is_x509_memory true (λ x. (behind (at place.now), subtrees_of x.0)) result ((general_subtrees number).read (at place.now)) }
-    ensures marks { IfOk result (λ x. x.1 ≡ (general_subtrees number).marks (at place.now)) }
-    ensures grows { tries.old ≤ tries.new }
-    ensures count { CountedBehind (length (behind (at place.now))) tries.old tries.new (length (at place.now)) result }
-    ensures foreign { IsForeign strict (is_explicit number) (at place.now) → IsErr result × (tries.new ≤ tries.old) }
-    ensures least { IfOk result (λ x. AddsAtLeast (subtrees_heads (subtrees_of x.0) - 1) tries.old tries.new) }
-    ensures there { IfOk result (λ _. is_element (at place.now) ≡ true) }
-{
-    let contents = place.explicit(number).map_err(|e| e.convert())?;
-    let (rest, subtrees, plain) = read_run(alloc, tries, contents)?;
-    if subtrees.is_empty() {
-        return Err(list_error(ErrorKind::Many1));
+impl<'a> ReadAt<'a, X509Error, Sequence<GeneralSubtree<'a>>> for Subtrees {
+    ghost Value = { List GeneralNameValue };
+
+    ghost view = { subtrees_of };
+
+    ghost plan = { λ s. general_subtrees s.number };
+
+    ghost form = { strict };
+
+    ghost own_tag = { λ s. is_explicit s.number };
+
+    ghost heads = { subtrees_heads };
+
+    ghost takes_memory = { true };
+
+    ghost tight = { λ _ _ _. ⊤ };
+
+    #[tactic(auto, unfolding(crate::specs::NameConstraints::general_subtrees, x509_der::specs::Leaves::explicit, x509_der::specs::Primitives::contents_at), using(x509_der::proofs::Marking::marks_of_readers))]
+    fn read_at(
+        &self,
+        alloc: Global,
+        tries: &mut Tries,
+        place: &Place<'a>,
+    ) -> Result<(Sequence<GeneralSubtree<'a>>, bool), Err<X509Error>> {
+        let contents = place.explicit(self.number).map_err(|e| e.convert())?;
+        let (rest, subtrees, plain) = read_run(alloc, tries, contents)?;
+        if subtrees.is_empty() {
+            return Err(list_error(ErrorKind::Many1));
+        }
+        if !rest.is_empty() {
+            return Err(list_error(ErrorKind::Eof));
+        }
+        Ok((subtrees, plain))
     }
-    if !rest.is_empty() {
-        return Err(list_error(ErrorKind::Eof));
-    }
-    Ok((subtrees, plain))
 }

@@ -3,7 +3,7 @@ use Rattle.std.proofs.Common.{◌≡◌, ℕ, ◌==◌, Bool, true, false, List,
 use Rattle.x509_der.specs.declared.error.BerError.TheVariants as ber
 use Rattle.x509_der.specs.declared.error.Err.{Err as Refusal}
 use Rattle.x509_der.specs.Laws.{IsBytes, Agrees}
-use Rattle.x509_der.specs.Plan.{Outcome, got}
+use Rattle.x509_der.specs.Plan.{Outcome, got, added}
 use Rattle.x509_der.specs.Reading.{Gives}
 use Rattle.x509_fields.specs.declared.error.X509Error.{X509Error}
 use Rattle.x509_fields.specs.declared.error.X509Error.TheVariants as x509
@@ -39,7 +39,7 @@ error_refuses : {A : Type 0} (fields : Field A) (number : ℕ) (contents : List 
     → number == sequence_number ≡ same → by_number same (fields.read contents) ≡ Err why → RefusesFields fields number contents why
 error_refuses fields number contents true why h k is e =
     let was = was_error (fields.read contents) why e in
-    inr (is, was.0, h.refused contents was.0 k was.1, was.2)
+    inr (is, was.0, fields.stop added contents 0, h.refused contents was.0 k was.1, was.2)
 error_refuses {A} fields number contents false why h k is e = inl (is, same_error {A = A} (x509.Der ber.InvalidTag) why e)
 
 abbrev error_of : {A : Type 0} → X509Error → Result A X509Error
@@ -53,7 +53,7 @@ reads_error : {A : Type 0} (fields : Field A) (number : ℕ) (contents : List �
 reads_error {A} fields number contents why h k (inl is) =
     ap (λ same. by_number same (fields.read contents)) is.0 ∙ ap (error_of {A = A}) is.1
 reads_error {A} fields number contents why h k (inr is) =
-    ap (λ same. by_number same (fields.read contents)) is.0 ∙ (ap value_or_error (h.refusal contents is.1 k is.2) ∙ ap (error_of {A = A}) is.3)
+    ap (λ same. by_number same (fields.read contents)) is.0 ∙ (ap value_or_error (h.refusal contents is.1 is.2 k is.3) ∙ ap (error_of {A = A}) is.4)
 
 pub reads_fields : {A X : Type 0} (view : X → A) (fields : Field A) (number : ℕ) (contents : List ℕ) (result : Result X X509Error) → Agrees fields → IsBytes contents
     → Gives view result (fields_of fields number contents) → ReadsFields view fields number contents result

@@ -41,7 +41,7 @@ HoldsFields fields number contents a = (number == sequence_number ≡ true) × (
 abbrev pub RefusesFields : {A : Type 0} → Field A → ℕ → List ℕ → X509Error → Type 0
 RefusesFields fields number contents why =
     ((number == sequence_number ≡ false) × (x509.Der ber.InvalidTag ≡ why))
-    ⊎ ((number == sequence_number ≡ true) × (r : Refusal X509Error) × fields.Refuses contents r × (x509_of_refusal (λ held. held) r ≡ why))
+    ⊎ ((number == sequence_number ≡ true) × (r : Refusal X509Error) × (left : ℕ) × fields.Refuses contents r left × (x509_of_refusal (λ held. held) r ≡ why))
 
 -- the value of what was read, or the error that its refusal holds
 abbrev pub value_or_error : {A : Type 0} → Outcome (Refusal X509Error) A → Result A X509Error

@@ -6,7 +6,7 @@ ghost use Rattle.x509_der.specs.Reading.{strict};
 ghost use Rattle.x509_keys.specs.EcdsaSigValue.{EcdsaValue, ecdsa_value_of, ecdsa_sig_value, ecdsa_value_heads, ecdsa_sig_value_laws};
 
 use std::alloc::Global;
-use x509_der::{BerError, Err, FromDer, Integer, Place, Tries, Two};
+use x509_der::{BerError, Err, Fields, FromDer, Integer, Place, Tries};
 
 /// The value of an ECDSA signature (RFC 3279, section 2.2.3).
 ///
@@ -50,10 +50,10 @@ impl<'a> FromDer<'a, BerError> for EcdsaSigValue<'a> {
         place: &Place<'a>,
     ) -> Result<(Self, bool), Err<BerError>> {
         let contents = place.sequence()?;
-        let Two { first, second } = Two::cut(tries, contents);
-        let r = first.integer()?;
-        let s = second.integer()?;
-        Ok((EcdsaSigValue { r, s }, second.rest().is_empty()))
+        let fields = Fields::of(tries, contents);
+        let (fields, r) = fields.integer(tries)?;
+        let s = fields.place.integer()?;
+        Ok((EcdsaSigValue { r, s }, fields.ends_here()))
     }
 
     ghost never_memory = { ecdsa_sig_value_laws.laws.never_memory };

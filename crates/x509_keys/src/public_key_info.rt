@@ -12,7 +12,7 @@ use crate::key_algorithm::{KeyAlgorithm, NamedCurve};
 use crate::key_kind::KeyKind;
 use crate::public_key::{PublicKey, parse_key, read_key};
 use std::alloc::Global;
-use x509_der::{Any, BitString, Class, Err, FromDer, Place, Tries};
+use x509_der::{Any, BitString, Class, Err, Fields, FromDer, Place, Tries};
 use x509_fields::{AlgorithmIdentifier, X509Error, sequence_at};
 
 /// A public key and its algorithm (RFC 5280, section 4.1.2.7).
@@ -141,13 +141,13 @@ impl<'a> FromDer<'a, X509Error> for SubjectPublicKeyInfo<'a> {
         place: &Place<'a>,
     ) -> Result<(Self, bool), Err<X509Error>> {
         let contents = sequence_at(place)?;
-        let first = Place::look(tries, contents);
-        let (algorithm, plain) = AlgorithmIdentifier::read_at(alloc, tries, &first)?;
-        let second = first.next(tries);
-        let subject_public_key = second
+        let fields = Fields::of(tries, contents);
+        let (fields, algorithm) = fields.field(alloc, tries)?;
+        let subject_public_key = fields
+            .place
             .bits()
             .map_err(|_| Err::Error(X509Error::InvalidSPKI))?;
-        let tail = second.rest();
+        let tail = fields.place.rest();
         let bytes = place.bytes();
         let raw = &bytes[..bytes.len() - (tail.len() + place.rest().len())];
         let info = SubjectPublicKeyInfo {
@@ -155,7 +155,7 @@ impl<'a> FromDer<'a, X509Error> for SubjectPublicKeyInfo<'a> {
             subject_public_key,
             raw,
         };
-        Ok((info, plain & tail.is_empty()))
+        Ok((info, fields.ends_here()))
     }
 
     ghost never_memory = { key_info_laws.laws.never_memory };

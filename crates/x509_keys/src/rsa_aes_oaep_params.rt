@@ -11,7 +11,7 @@ ghost use Rattle.x509_keys.specs.RsaAesOaepParams.{oaep_fields, oaep_of, p_speci
 
 use crate::mask_gen_algorithm::{MaskGenAlgorithm, hash_or_default, mask_gen_or_default};
 use crate::parameters::tagged_algorithm_at;
-use x509_der::{Any, BerError, Elements, Oid, Tag, Tries};
+use x509_der::{Any, BerError, Fields, Oid, Tag, Tries};
 use x509_fields::{AlgorithmIdentifier, X509Error};
 
 /// id-pSpecified, 1.2.840.113549.1.1.9 (RFC 4055, section 4.1): the contents of the identifier.
@@ -129,10 +129,11 @@ fn read_fields<'a>(tag: Tag, contents: &'a [u8]) -> Result<RsaAesOaepParams<'a>,
     if tag != Tag::Sequence {
         return Err(X509Error::Der(BerError::InvalidTag));
     }
-    let children: Elements<'_, 3> = Elements::cut(&mut Tries::new(), contents);
-    let (k, hash_algorithm) = tagged_algorithm_at(&children, 0, 0)?;
-    let (k, mask_gen_algorithm) = tagged_algorithm_at(&children, k, 1)?;
-    let (_, p_source_alg) = tagged_algorithm_at(&children, k, 2)?;
+    let mut tries = Tries::new();
+    let fields = Fields::of(&mut tries, contents);
+    let (fields, hash_algorithm) = tagged_algorithm_at(&fields, &mut tries, 0)?;
+    let (fields, mask_gen_algorithm) = tagged_algorithm_at(&fields, &mut tries, 1)?;
+    let (_, p_source_alg) = tagged_algorithm_at(&fields, &mut tries, 2)?;
     Ok(RsaAesOaepParams {
         hash_algorithm,
         mask_gen_algorithm,

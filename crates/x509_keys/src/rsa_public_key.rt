@@ -1,17 +1,17 @@
 //! RSA public keys.
 
-ghost use Rattle.std.specs.Prelude.{◌≡◌, ◌≤◌, true, false, length, IfOk, IsErr};
+ghost use Rattle.std.specs.Prelude.{◌≡◌, ◌≤◌, false, length};
 ghost use Rattle.std.specs.Int.Digits.{number_from_digits};
 ghost use Rattle.x509_der.specs.Primitives.{is_constructed};
-ghost use Rattle.x509_der.specs.Looks.{behind, is_element, CountedBehind};
 ghost use Rattle.x509_der.specs.Place.{at};
-ghost use Rattle.x509_der.specs.Promises.{IsForeign};
-ghost use Rattle.x509_der.specs.Reading.{AddsAtLeast, Gives, strict};
+ghost use Rattle.x509_der.specs.Promises.{ReadsAt};
+ghost use Rattle.x509_der.specs.Reading.{strict};
+ghost use Rattle.x509_fields.specs.Errors.{is_x509_memory};
 ghost use Rattle.x509_keys.specs.RsaPublicKey.{RsaKey, rsa_key_of, rsa_public_key, rsa_key_heads, rsa_public_key_laws, exponent_number, modulus_size};
 
 use crate::sizes::bits_in;
 use std::alloc::Global;
-use x509_der::{Err, FromDer, Place, Tries, Two};
+use x509_der::{Err, Fields, FromDer, Place, Tries};
 use x509_fields::X509Error;
 
 /// An RSA public key (RFC 8017, A.1.1).
@@ -81,29 +81,24 @@ pub(crate) fn rsa_key_at<'a>(
     tries: &mut Tries,
     place: &Place<'a>,
 ) -> Result<(RSAPublicKey<'a>, bool), Err<X509Error>>
-    ensures reads { Gives (λ x. (behind (at place.now), rsa_key_of x.0)) result (rsa_public_key.read (at place.now)) }
-    ensures marks { IfOk result (λ x. x.1 ≡ rsa_public_key.marks (at place.now)) }
-    ensures grows { tries.old ≤ tries.new }
-    ensures count { CountedBehind (length (behind (at place.now))) tries.old tries.new (length (at place.now)) result }
-    ensures foreign { IsForeign strict (is_constructed 16) (at place.now) → IsErr result × (tries.new ≤ tries.old) }
-    ensures least { IfOk result (λ _. AddsAtLeast 2 tries.old tries.new) }
-    ensures there { IfOk result (λ _. is_element (at place.now) ≡ true) }
+    ensures { ReadsAt is_x509_memory false strict (is_constructed 16) rsa_key_heads rsa_key_of rsa_public_key (at place.now) tries.old tries.new result }
 {
     let Ok(contents) = place.sequence() else {
         return Err(Err::Error(X509Error::InvalidSPKI));
     };
-    let Two { first, second } = Two::cut(tries, contents);
-    let modulus = first
-        .integer()
+    let fields = Fields::of(tries, contents);
+    let (fields, modulus) = fields
+        .integer(tries)
         .map_err(|_| Err::Error(X509Error::InvalidSPKI))?;
-    let exponent = second
+    let exponent = fields
+        .place
         .integer()
         .map_err(|_| Err::Error(X509Error::InvalidSPKI))?;
     let key = RSAPublicKey {
         modulus: modulus.as_bytes(),
         exponent: exponent.as_bytes(),
     };
-    Ok((key, second.rest().is_empty()))
+    Ok((key, fields.ends_here()))
 }
 
 impl<'a> FromDer<'a, X509Error> for RSAPublicKey<'a> {

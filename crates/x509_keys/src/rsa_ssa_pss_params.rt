@@ -11,7 +11,7 @@ ghost use Rattle.x509_keys.specs.RsaSsaPssParams.{default_salt_length, default_t
 
 use crate::mask_gen_algorithm::{MaskGenAlgorithm, hash_or_default, mask_gen_or_default};
 use crate::parameters::{tagged_algorithm_at, tagged_u32_at};
-use x509_der::{Any, BerError, Elements, Oid, Tag, Tries};
+use x509_der::{Any, BerError, Fields, Oid, Tag, Tries};
 use x509_fields::{AlgorithmIdentifier, X509Error};
 
 /// The parameters of RSASSA-PSS (RFC 4055, section 3.1).
@@ -126,11 +126,12 @@ fn read_fields<'a>(tag: Tag, contents: &'a [u8]) -> Result<RsaSsaPssParams<'a>, 
     if tag != Tag::Sequence {
         return Err(X509Error::Der(BerError::InvalidTag));
     }
-    let children: Elements<'_, 4> = Elements::cut(&mut Tries::new(), contents);
-    let (k, hash_algorithm) = tagged_algorithm_at(&children, 0, 0)?;
-    let (k, mask_gen_algorithm) = tagged_algorithm_at(&children, k, 1)?;
-    let (k, salt_length) = tagged_u32_at(&children, k, 2)?;
-    let (_, trailer_field) = tagged_u32_at(&children, k, 3)?;
+    let mut tries = Tries::new();
+    let fields = Fields::of(&mut tries, contents);
+    let (fields, hash_algorithm) = tagged_algorithm_at(&fields, &mut tries, 0)?;
+    let (fields, mask_gen_algorithm) = tagged_algorithm_at(&fields, &mut tries, 1)?;
+    let (fields, salt_length) = tagged_u32_at(&fields, &mut tries, 2)?;
+    let (_, trailer_field) = tagged_u32_at(&fields, &mut tries, 3)?;
     Ok(RsaSsaPssParams {
         hash_algorithm,
         mask_gen_algorithm,

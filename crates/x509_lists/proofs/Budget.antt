@@ -4,7 +4,7 @@ use Rattle.std.specs.Prelude.{IsErr}
 use Rattle.x509_der.specs.declared.header.Header.{Header}
 use Rattle.x509_der.specs.declared.error.Err.{Err as Refusal}
 use Rattle.x509_der.specs.declared.error.Err.TheVariants.{Error}
-use Rattle.x509_der.specs.Looks.{place_at, SoftBehindBy}
+use Rattle.x509_der.specs.Fields.{CountedSoftBy}
 use Rattle.x509_der.specs.Plan.{and_then, outcome_at, with_refusals}
 use Rattle.x509_der.specs.Primitives.{is_universal, is_constructed, has_number}
 use Rattle.x509_der.specs.Promises.{IsForeign, IsForeignTo}
@@ -51,14 +51,12 @@ sequence_or_wrapper n distinct place = go (header_at strict place)
     go (Err w) = inl tt
 
 -- a SEQUENCE that may be absent, and a wrapper behind it
-pub closing_tries : {A : Type 0} (window here : List ℕ) (k next n : ℕ) (o : Option A) (old between new : ℕ) → (16 == n) ≡ false → here ≡ place_at window next
-    → SoftBehindBy o k next (length (place_at window next)) old between (length (place_at window k)) → old ≤ between → (IsForeign strict (is_constructed 16) (place_at window k) → between ≤ old)
-    → new ≤ between + (8 * length here - 8) → (IsErr ((wrapper_header n).read here) → new ≤ between) → new ≤ old + (8 * length (place_at window k) - 8)
-closing_tries window here k next n (Some a) old between new distinct stands soft grows foreign more other = omega (arith, soft.1, more, grows, ap length stands)
-closing_tries window here k next n None old between new distinct stands soft grows foreign more other =
-    elim (sequence_or_wrapper n distinct (place_at window k)) [
-      | inl away ↦ omega (arith, soft.1, more, foreign away, ap length stands)
-      | inr unwrapped ↦
-          let there : here ≡ place_at window k = stands ∙ ap (place_at window) soft.0 in
-          omega (arith, other (subst (λ (place : List ℕ). IsErr ((wrapper_header n).read place)) (sym there) unwrapped), soft.2)
+pub closing_tries : {A : Type 0} (place next : List ℕ) (n : ℕ) (o : Option A) (old between new : ℕ) → (16 == n) ≡ false
+    → CountedSoftBy o next old between place → old ≤ between → (IsForeign strict (is_constructed 16) place → between ≤ old)
+    → new ≤ between + (8 * length next - 8) → (IsErr ((wrapper_header n).read next) → new ≤ between) → new ≤ old + (8 * length place - 8)
+closing_tries place next n (Some a) old between new distinct soft grows foreign more other = omega (arith, soft, more, grows)
+closing_tries place next n None old between new distinct soft grows foreign more other =
+    elim (sequence_or_wrapper n distinct place) [
+      | inl away ↦ omega (arith, more, foreign away, ap length soft.0)
+      | inr unwrapped ↦ omega (arith, other (subst (λ (p : List ℕ). IsErr ((wrapper_header n).read p)) (sym soft.0) unwrapped), soft.1)
     ]

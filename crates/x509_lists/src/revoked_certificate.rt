@@ -1,6 +1,6 @@
 //! A certificate on a list of revoked ones.
 
-ghost use Rattle.std.specs.Prelude.{◌≡◌, ◌+◌, MatchResult, codes, string_bytes, length, true};
+ghost use Rattle.std.specs.Prelude.{◌≡◌, MatchResult, codes, string_bytes, true};
 ghost use Rattle.x509_der.specs.Hex.{hex_text};
 ghost use Rattle.x509_der.specs.Primitives.{is_constructed};
 ghost use Rattle.x509_der.specs.Reading.{strict};
@@ -9,10 +9,10 @@ ghost use Rattle.x509_extensions.specs.ExtensionList.{extensions_left};
 ghost use Rattle.x509_lists.specs.RevokedCertificate.{Revoked, revoked_of, revoked, revoked_heads, revoked_laws};
 
 use std::alloc::Global;
-use x509_der::{Err, FromDer, Place, Sequence, Tries, UnsignedBytes};
+use x509_der::{Err, Fields, FromDer, Place, Sequence, Tries, UnsignedBytes};
 use x509_extensions::{ExtensionIter, ExtensionSequence, X509Extension};
 use x509_fields::{ASN1Time, TryClone, X509Error, format_serial, sequence_at};
-use x509_signed::{read_field, read_serial, read_soft_field};
+use x509_signed::read_serial;
 
 /// A certificate that was revoked (RFC 5280, section 5.1.2.6).
 ///
@@ -103,13 +103,13 @@ impl<'a> FromDer<'a, X509Error> for RevokedCertificate<'a> {
         place: &Place<'a>,
     ) -> Result<(Self, bool), Err<X509Error>> {
         let contents = sequence_at(place)?;
-        let first = Place::look(tries, contents);
-        let (second, raw_serial, serial_plain) = read_serial(tries, &first)?;
-        let (third, revocation_date, date_plain) = match read_field(alloc, tries, &second) {
-            Ok((third, date, plain)) => (third, date, plain),
+        let fields = Fields::of(tries, contents);
+        let (fields, raw_serial) = read_serial(tries, &fields)?;
+        let (fields, revocation_date) = match fields.field(alloc, tries) {
+            Ok((fields, date)) => (fields, date),
             Err(e) => return Err(e),
         };
-        let (last, sequence, extensions_plain) = read_soft_field(alloc, tries, &third)?;
+        let (fields, sequence) = fields.soft(alloc, tries)?;
         let extensions = match sequence {
             Some(ExtensionSequence { list }) => list,
             None => Sequence::new(alloc),
@@ -120,8 +120,7 @@ impl<'a> FromDer<'a, X509Error> for RevokedCertificate<'a> {
             extensions,
             raw_serial,
         };
-        let plain = serial_plain & (date_plain & extensions_plain);
-        Ok((revoked, plain & last.bytes().is_empty()))
+        Ok((revoked, fields.are_plain()))
     }
 
     ghost never_memory = { revoked_laws.laws.never_memory };

@@ -1,6 +1,6 @@
 //! The certificates of a list.
 
-ghost use Rattle.std.specs.Prelude.{◌+◌, List, true};
+ghost use Rattle.std.specs.Prelude.{List, true};
 ghost use Rattle.x509_der.specs.Primitives.{is_constructed};
 ghost use Rattle.x509_der.specs.Reading.{strict};
 ghost use Rattle.x509_lists.specs.RevokedCertificate.{Revoked};

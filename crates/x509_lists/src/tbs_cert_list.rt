@@ -1,10 +1,9 @@
 //! The part of a list that is signed.
 
-ghost use Rattle.std.specs.Prelude.{◌≡◌, ◌+◌, ◌-◌, length, true};
+ghost use Rattle.std.specs.Prelude.{◌≡◌, ◌-◌, true};
 ghost use Rattle.x509_der.specs.Primitives.{is_constructed};
 ghost use Rattle.x509_der.specs.Reading.{strict};
 ghost use Rattle.x509_extensions.specs.ExtensionList.{extensions_left};
-ghost use Rattle.x509_lists.specs.RevokedList.{revoked_left};
 ghost use Rattle.x509_lists.specs.TbsCertList.{TbsList, tbs_list_of, tbs_list_heads, tbs_list, tbs_list_laws};
 
 use crate::issue::read_issue;
@@ -12,7 +11,7 @@ use crate::list_version::read_version;
 use crate::revoked_certificate::RevokedCertificate;
 use crate::revoked_list::RevokedList;
 use std::alloc::Global;
-use x509_der::{Elements, Err, FromDer, Place, Sequence, Tries, soft_at};
+use x509_der::{Err, Fields, FromDer, Place, Sequence, Tries};
 use x509_extensions::{ExtensionIter, X509Extension, X509ExtensionParser};
 use x509_fields::{
     ASN1Time, AlgorithmIdentifier, TryClone, X509Error, X509Name, X509Version, sequence_at,
@@ -101,14 +100,14 @@ impl<'a> FromDer<'a, X509Error> for TbsCertList<'a> {
         place: &Place<'a>,
     ) -> Result<(Self, bool), Err<X509Error>> {
         let contents = sequence_at(place)?;
-        let children: Elements<'_, 7> = Elements::cut(tries, contents);
-        let (k, version) = read_version(&children);
-        let (k, issue, issue_plain) = match read_issue(alloc, tries, &children, k) {
-            Ok((k, issue, plain)) => (k, issue, plain),
+        let fields = Fields::of(tries, contents);
+        let (fields, version) = read_version(tries, &fields);
+        let (fields, issue) = match read_issue(alloc, tries, &fields) {
+            Ok((fields, issue)) => (fields, issue),
             Err(e) => return Err(e),
         };
-        let (k, revoked, revoked_plain) = match soft_at(alloc, tries, &children, k) {
-            Ok((k, revoked, plain)) => (k, revoked, plain),
+        let (fields, revoked) = match fields.soft(alloc, tries) {
+            Ok((fields, revoked)) => (fields, revoked),
             Err(e) => return Err(e),
         };
         let parser = X509ExtensionParser::new();
@@ -116,7 +115,7 @@ impl<'a> FromDer<'a, X509Error> for TbsCertList<'a> {
             alloc,
             tries,
             0,
-            &children.at(k),
+            &fields.place,
         ) {
             Ok((extensions, plain)) => (extensions, plain),
             Err(e) => return Err(e),
@@ -136,8 +135,7 @@ impl<'a> FromDer<'a, X509Error> for TbsCertList<'a> {
             extensions,
             raw: &bytes[..bytes.len() - place.rest().len()],
         };
-        let plain = issue_plain & (revoked_plain & extensions_plain);
-        Ok((tbs, plain))
+        Ok((tbs, fields.plain_so_far() & extensions_plain))
     }
 
     ghost never_memory = { tbs_list_laws.laws.never_memory };

@@ -4,12 +4,12 @@ ghost use Rattle.std.specs.Prelude.{◌≡◌, ◌≤◌, ◌+◌, ◌-◌, ◌*
 ghost use Rattle.x509_der.specs.Looks.{behind, is_element};
 ghost use Rattle.x509_der.specs.Place.{at};
 ghost use Rattle.x509_der.specs.Primitives.{is_constructed};
-ghost use Rattle.x509_der.specs.Promises.{IsForeign};
+ghost use Rattle.x509_der.specs.Promises.{IsForeign, ReadsContents, ReadsLeaf};
 ghost use Rattle.x509_der.specs.Reading.{Gives, AddsAtLeast, element_of, loose};
 ghost use Rattle.x509_fields.specs.Fields.{lifted};
 ghost use Rattle.x509_requests.specs.CriAttribute.{parts_of, set_of, loose_sequence, attribute_set, attribute_fields, attribute_parts};
 
-use x509_der::{Any, BerError, Class, Err, Header, Oid, Place, Tag, Tries, Two};
+use x509_der::{Any, BerError, Class, Err, Fields, Header, Oid, Place, Tag, Tries};
 use x509_fields::X509Error;
 
 /// An attribute whose value isn't looked at.
@@ -28,11 +28,8 @@ pub(crate) struct AttributeParts<'a> {
 #[inline(always)]
 #[tactic(auto, unfolding(crate::specs::CriAttribute::loose_sequence, x509_der::specs::Leaves::any_loose, x509_der::specs::Primitives::contents_at))]
 fn loose_sequence_at<'a>(place: &Place<'a>) -> Result<&'a [u8], Err<X509Error>>
-    ensures reads { Gives (λ x. (behind (at place.now), x.now)) result ((lifted loose_sequence).read (at place.now)) }
+    ensures reads { ReadsContents loose (is_constructed 16) (λ x. x.now) (lifted loose_sequence) (at place.now) result }
     ensures marks { (lifted loose_sequence).marks (at place.now) ≡ true }
-    ensures there { IfOk result (λ _. is_element (at place.now) ≡ true) }
-    ensures sizes { IfOk result (λ x. length (behind (at place.now)) + length x.now + 2 ≤ length (at place.now)) }
-    ensures foreign { IsForeign loose (is_constructed 16) (at place.now) → IsErr result }
 {
     let (any, _) = place.any_marked().map_err(|e| e.convert())?;
     match any.header() {
@@ -50,9 +47,8 @@ fn loose_sequence_at<'a>(place: &Place<'a>) -> Result<&'a [u8], Err<X509Error>>
 #[inline(always)]
 #[tactic(auto, unfolding(crate::specs::CriAttribute::attribute_set, x509_der::specs::Leaves::any))]
 fn set_at<'a>(place: &Place<'a>) -> Result<(&'a [u8], Any<'a>), Err<X509Error>>
-    ensures reads { Gives (λ x. (behind (at place.now), set_of x)) result (attribute_set.read (at place.now)) }
+    ensures reads { ReadsLeaf set_of attribute_set (at place.now) result }
     ensures marks { attribute_set.marks (at place.now) ≡ true }
-    ensures there { IfOk result (λ _. is_element (at place.now) ≡ true) }
     ensures sizes { IfOk result (λ x. length (behind (at place.now)) + length (element_of x.1).contents + 2 ≤ length (at place.now)) }
 {
     let element = place
@@ -81,9 +77,9 @@ fn read_attribute_fields<'a>(
     ensures there { IfOk result (λ _. is_element (at place.now) ≡ true) }
 {
     let contents = loose_sequence_at(place)?;
-    let Two { first, second } = Two::cut(tries, contents);
-    let oid = first.oid().map_err(|e| e.convert())?;
-    let (set, element) = set_at(&second)?;
+    let fields = Fields::of(tries, contents);
+    let (fields, oid) = fields.oid(tries).map_err(|e| e.convert())?;
+    let (set, element) = set_at(&fields.place)?;
     let bytes = place.bytes();
     let parts = AttributeParts {
         raw: &bytes[..bytes.len() - place.rest().len()],
@@ -91,7 +87,7 @@ fn read_attribute_fields<'a>(
         set,
         element,
     };
-    Ok((parts, second.rest().is_empty()))
+    Ok((parts, fields.ends_here()))
 }
 
 /// The parts of the attribute at a place, and whether nothing stands behind the SET. Every refusal is `InvalidAttributes`.

@@ -16,7 +16,7 @@ use crate::attribute_parts::{AttributeParts, read_attribute_parts};
 use crate::extension_request::ExtensionRequest;
 use crate::password::{ChallengePassword, read_password};
 use std::alloc::Global;
-use x509_der::{Class, Err, FromDer, Header, Oid, Place, Tag, Tries};
+use x509_der::{Class, Err, Fields, FromDer, Header, Oid, Place, Tag, Tries};
 use x509_fields::{TryClone, X509Error};
 
 /// An attribute of a certification request (RFC 2986, section 4.1).
@@ -168,21 +168,19 @@ fn parse_values<'a>(
     match AttributeKind::of(oid.as_bytes()) {
         None => Ok((ParsedCriAttribute::UnsupportedAttribute, true)),
         Some(AttributeKind::ChallengePassword) => {
-            let place = Place::look(tries, values);
-            match read_password(alloc, &place) {
+            let fields = Fields::of(tries, values);
+            match read_password(alloc, &fields.place) {
                 Ok(password) => Ok((
                     ParsedCriAttribute::ChallengePassword(password),
-                    place.rest().is_empty(),
+                    fields.ends_here(),
                 )),
                 Err(e) => Err(refusal_of(e)),
             }
         }
         Some(AttributeKind::ExtensionRequest) => {
-            match ExtensionRequest::read_marked(alloc, tries, values) {
-                Ok((rest, request, plain)) => Ok((
-                    ParsedCriAttribute::ExtensionRequest(request),
-                    plain & rest.is_empty(),
-                )),
+            let fields = Fields::of(tries, values);
+            match fields.last(alloc, tries) {
+                Ok((request, plain)) => Ok((ParsedCriAttribute::ExtensionRequest(request), plain)),
                 Err(e) => Err(refusal_of(e)),
             }
         }

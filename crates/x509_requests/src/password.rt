@@ -1,6 +1,6 @@
 //! The text of a challenge password.
 
-ghost use Rattle.std.specs.Prelude.{◌≡◌, ◌≤◌, string_bytes, true, IfOk, MatchResult, length};
+ghost use Rattle.std.specs.Prelude.{◌≡◌, string_bytes, true, IfOk, MatchResult};
 ghost use Rattle.x509_der.specs.Looks.{behind, is_element};
 ghost use Rattle.x509_der.specs.Place.{at};
 ghost use Rattle.x509_der.specs.Promises.{Answers};

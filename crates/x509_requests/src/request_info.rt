@@ -1,6 +1,6 @@
 //! What a certification request says.
 
-ghost use Rattle.std.specs.Prelude.{◌≡◌, ◌+◌, ◌-◌, length, true};
+ghost use Rattle.std.specs.Prelude.{◌≡◌, ◌-◌, length, true};
 ghost use Rattle.x509_der.specs.Primitives.{is_constructed};
 ghost use Rattle.x509_der.specs.Reading.{strict};
 ghost use Rattle.x509_requests.specs.AttributeIter.{attributes_left};
@@ -10,7 +10,7 @@ use crate::cri_attribute::X509CriAttribute;
 use crate::cri_attribute_iter::CriAttributeIter;
 use crate::request_attributes::read_attributes;
 use std::alloc::Global;
-use x509_der::{Elements, Err, FromDer, Place, Sequence, Tries, field_at};
+use x509_der::{Err, Fields, FromDer, Place, Sequence, Tries};
 use x509_fields::{X509Error, X509Name, X509Version, sequence_at};
 use x509_keys::SubjectPublicKeyInfo;
 
@@ -80,11 +80,11 @@ impl<'a> FromDer<'a, X509Error> for X509CertificationRequestInfo<'a> {
         place: &Place<'a>,
     ) -> Result<(Self, bool), Err<X509Error>> {
         let contents = sequence_at(place)?;
-        let children: Elements<'_, 4> = Elements::cut(tries, contents);
-        let (k, version, version_plain) = field_at(alloc, tries, &children, 0)?;
-        let (k, subject, subject_plain) = field_at(alloc, tries, &children, k)?;
-        let (k, subject_pki, key_plain) = field_at(alloc, tries, &children, k)?;
-        let (attributes, attributes_plain) = match read_attributes(alloc, tries, &children.at(k)) {
+        let fields = Fields::of(tries, contents);
+        let (fields, version) = fields.field(alloc, tries)?;
+        let (fields, subject) = fields.field(alloc, tries)?;
+        let (fields, subject_pki) = fields.field(alloc, tries)?;
+        let (attributes, attributes_plain) = match read_attributes(alloc, tries, &fields.place) {
             Ok((attributes, plain)) => (attributes, plain),
             Err(e) => return Err(e),
         };
@@ -96,8 +96,7 @@ impl<'a> FromDer<'a, X509Error> for X509CertificationRequestInfo<'a> {
             attributes,
             raw: &bytes[..bytes.len() - place.rest().len()],
         };
-        let plain = version_plain & (subject_plain & (key_plain & attributes_plain));
-        Ok((info, plain))
+        Ok((info, fields.plain_so_far() & attributes_plain))
     }
 
     ghost never_memory = { request_info_laws.laws.never_memory };

@@ -52,28 +52,28 @@ same_front text_of a b m n e = ap (λ x. front_report text_of x m) e.0 ∙ ap (f
 accepted_only : {A : Type 0} (plan : Field A) (text_of : A → List ℕ → List ℕ) (input : List ℕ) (value : A) (rest : List ℕ) (report : Report)
     → IsFront plan input value rest
     → ((a b : A) (m n : List ℕ) → IsFront plan input a m → IsFront plan input b n → (a ≡ b) × (m ≡ n))
-    → ((e : Refusal X509Error) → plan.Refuses input e → refusing e ≡ got value rest)
+    → ((e : Refusal X509Error) (left : ℕ) → plan.Refuses input e left → refusing e ≡ got value rest)
     → report ≡ front_report text_of value rest → IsOnly (IsFrontReport plan text_of input) report
 accepted_only plan text_of input value rest report front only refuses is = record {
   is = inl (record { value = value; rest = rest; front = front; reported = is });
   only = λ y h. elim h [
     | inl a ↦ a.reported ∙ same_front text_of a.value value a.rest rest (only a.value value a.rest rest a.front front) ∙ sym is
-    | inr r ↦ absurd (got_not_err value rest r.reason (sym (refuses r.reason r.refused)))
+    | inr r ↦ absurd (got_not_err value rest r.reason (sym (refuses r.reason r.refused.0 r.refused.1)))
   ];
 }
 
 -- and so does the reason of a refusal that is not want of memory
 refused_only : {A : Type 0} (plan : Field A) (text_of : A → List ℕ → List ℕ) (input : List ℕ) (reason : Refusal X509Error) (report : Report)
     → is_excused is_x509_memory true reason ≡ false
-    → (is_excused is_x509_memory true reason ≡ false → plan.Refuses input reason)
+    → (is_excused is_x509_memory true reason ≡ false → (left : ℕ) × plan.Refuses input reason left)
     → ((a : A) (m : List ℕ) → IsFront plan input a m → cond (is_excused is_x509_memory true reason) (Unit {0}) (got a m ≡ err reason))
-    → ((e : Refusal X509Error) → plan.Refuses input e → cond (is_excused is_x509_memory true reason) (Unit {0}) (err {A = A} e ≡ err reason))
+    → ((e : Refusal X509Error) (left : ℕ) → plan.Refuses input e left → cond (is_excused is_x509_memory true reason) (Unit {0}) (err {A = A} e ≡ err reason))
     → report ≡ refused_report x509_word reason → IsOnly (IsFrontReport plan text_of input) report
 refused_only {A} plan text_of input reason report own refused accepts refuses is = record {
   is = inr (record { reason = reason; refused = refused own; reported = is });
   only = λ y h. elim h [
     | inl a ↦ absurd (got_not_err a.value a.rest reason (rw own at accepts a.value a.rest a.front))
-    | inr r ↦ r.reported ∙ ap (refused_report x509_word) (err_is A r.reason reason (rw own at refuses r.reason r.refused)) ∙ sym is
+    | inr r ↦ r.reported ∙ ap (refused_report x509_word) (err_is A r.reason reason (rw own at refuses r.reason r.refused.0 r.refused.1)) ∙ sym is
   ];
 }
 

@@ -21,7 +21,7 @@ pub record ReportsFront {A : Type 0} (plan : Field A) (text_of : A → List ℕ 
 -- nothing stands at the front of the input, and this is the report of the reason
 pub record ReportsRefusal {A : Type 0} (plan : Field A) (input : List ℕ) (report : Report) : Type 0 where
   pub reason : Refusal X509Error
-  pub refused : plan.Refuses input reason
+  pub refused : (left : ℕ) × plan.Refuses input reason left
   pub reported : report ≡ refused_report x509_word reason
 
 -- the report of what the input is by the grammar

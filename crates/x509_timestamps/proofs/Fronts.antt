@@ -3,7 +3,7 @@ use Rattle.std.proofs.Common.{ℕ, ◌+◌, ◌<◌, Bool, List, ◌++◌, lengt
 use Rattle.std.specs.Prelude.{IfOk, IfErr}
 use Rattle.x509_der.specs.declared.error.Err.{Err as Refusal}
 use Rattle.x509_der.specs.Laws.{IsBytes, Agrees, Local}
-use Rattle.x509_der.specs.Plan.{Plan}
+use Rattle.x509_der.specs.Plan.{Plan, added}
 use Rattle.x509_der.specs.Promises.{IsFront}
 use Rattle.x509_der.specs.Reading.{Gives}
 use Rattle.x509_der.proofs.Sentences.{front_read, front_only, front_unique, front_longer, front_shorter}
@@ -13,9 +13,9 @@ accepted : {F A X : Type 0} (p : Plan F A) → Agrees p → Local p → (view : 
 accepted p ha hl view (Ok x) place k e = front_read p ha hl place (view x).1 (view x).0 k e
 accepted p ha hl view (Err r) place k e = tt
 
-refused : {F A X : Type 0} (p : Plan F A) → Agrees p → (view : X → List ℕ × A) (result : Result X F) (place : List ℕ) → IsBytes place → Gives view result (p.read place) → IfErr result (λ e. p.Refuses place e)
+refused : {F A X : Type 0} (p : Plan F A) → Agrees p → (view : X → List ℕ × A) (result : Result X F) (place : List ℕ) → IsBytes place → Gives view result (p.read place) → IfErr result (λ e. (left : ℕ) × p.Refuses place e left)
 refused p ha view (Ok x) place k e = tt
-refused p ha view (Err r) place k e = ha.refused place r k e
+refused p ha view (Err r) place k e = (p.stop added place 0, ha.refused place r k e)
 
 longer : {F A X : Type 0} (p : Plan F A) → (view : X → List ℕ × A) (result : Result X F) (place : List ℕ) → IfOk result (λ x. IsFront p place (view x).1 (view x).0)
     → IfOk result (λ x. (more : List ℕ) → IsFront p (place ++ more) (view x).1 ((view x).0 ++ more))
@@ -34,7 +34,7 @@ reads_front is_memory p h view result place k reads =
       accepted = is;
       accepts = λ a rest front. subst (Gives view result) (front_only p h.agrees h.is_local place a rest k front) reads;
       refused = refused p h.agrees view result place k reads;
-      refuses = λ e r. subst (Gives view result) (h.agrees.refusal place e k r) reads;
+      refuses = λ e left r. subst (Gives view result) (h.agrees.refusal place e left k r) reads;
       only = λ a b rest other x y. front_unique p h.agrees h.is_local place k a b rest other x y;
       longer = longer p view result place is;
       shorter = shorter p h.agrees h.is_local view result place k is;

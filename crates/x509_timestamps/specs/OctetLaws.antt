@@ -9,7 +9,7 @@ use Rattle.x509_der.specs.declared.error.BerError.{BerError}
 use Rattle.x509_der.specs.Plan.{Outcome, Plan, got, run, run1, container}
 use Rattle.x509_der.specs.Laws.{Agrees, Encloses, Local, Anywhere, AtEnd, Marks, IsMarkedField}
 use Rattle.x509_der.specs.Promises.{is_ber_memory, is_excused}
-use Rattle.x509_der.proofs.Results.{err, got_parts, err_is, then_ok, then_by}
+use Rattle.x509_der.proofs.Results.{err, got_parts, err_is, then_ok, then_by, none_outside}
 use Rattle.x509_der.proofs.Agreement.{container_agrees}
 use Rattle.x509_der.proofs.Windows.{local_within, container_local, run_within, run1_within}
 use Rattle.x509_der.proofs.Runs.{run_agrees, run1_agrees}
@@ -59,8 +59,10 @@ unfolding fixed
 fixed_agrees n = record {
   sound = λ place a next k e. was_cut n place a next e;
   complete = λ place a next k h. ap (fixed n).read h.1 ∙ fixed_reads n a next h.0;
-  refused = λ place r k e. was_short n place r e;
-  refusal = λ place r k h. fixed_refuses n place h.0 ∙ ap (λ (x : Refusal BerError). err {A = List ℕ} x) h.1;
+  refused = λ place r k e. let s = was_short n place r e in (s.0, s.1, none_outside place);
+  refusal = λ place r left k h. fixed_refuses n place h.0 ∙ ap (λ (x : Refusal BerError). err {A = List ℕ} x) h.1;
+  stops = λ more acts place r left outside k h. ap (λ m. more m outside) h.2;
+  inside = λ place r left k h. omega (arith, h.2);
 }
 
 -- a refusal for want of bytes is none for want of memory

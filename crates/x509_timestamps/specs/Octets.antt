@@ -3,16 +3,17 @@ use Rattle.std.specs.Prelude.{◌≡◌, ℕ, ◌<◌, true, List, ◌++◌, len
 use Rattle.std.specs.Int.Digits.{number_from_digits}
 use Rattle.x509_der.specs.declared.error.Err.TheVariants as refusals
 use Rattle.x509_der.specs.Leaves.{BerPlan}
-use Rattle.x509_der.specs.Plan.{got, ◌>>=◌, give}
+use Rattle.x509_der.specs.Plan.{got, ◌>>=◌, give, stop_here}
 
 -- so many octets
 unfoldable pub fixed : ℕ → BerPlan (List ℕ)
 fixed n = record {
   Is = λ place octets next. (length octets ≡ n) × (place ≡ octets ++ next);
   Plain = λ place octets next. (length octets ≡ n) × (place ≡ octets ++ next);
-  Refuses = λ place r. (length place < n) × (refusals.Incomplete ≡ r);
+  Refuses = λ place r left. (length place < n) × (refusals.Incomplete ≡ r) × (length place ≡ left);
   read = λ place. if nat_lt (length place) n then Err refusals.Incomplete else got (take n place) (drop n place);
   marks = λ place. true;
+  stop = λ more. stop_here more;
 }
 
 -- a number in so many octets, the most significant first: uint8, uint16, uint64 (RFC 5246, 4.4)

@@ -17,8 +17,8 @@ pub record IsMarkedSentence {E A : Type 0} (is_memory : E → Bool) (p : Plan (R
 pub record ReadsFront {F A X : Type 0} (view : X → List ℕ × A) (plan : Plan F A) (bytes : List ℕ) (result : Result X F) : Type 0 where
   pub accepted : IfOk result (λ x. IsFront plan bytes (view x).1 (view x).0)
   pub accepts : (a : A) (rest : List ℕ) → IsFront plan bytes a rest → Gives view result (got a rest)
-  pub refused : IfErr result (λ e. plan.Refuses bytes e)
-  pub refuses : (e : F) → plan.Refuses bytes e → Gives view result (refusing e)
+  pub refused : IfErr result (λ e. (left : ℕ) × plan.Refuses bytes e left)
+  pub refuses : (e : F) (left : ℕ) → plan.Refuses bytes e left → Gives view result (refusing e)
   -- at most one front is in the grammar, with one value
   pub only : (a b : A) (rest other : List ℕ) → IsFront plan bytes a rest → IsFront plan bytes b other → (a ≡ b) × (rest ≡ other)
   -- bytes behind it only lengthen the rest, and no shorter front of it is in the grammar

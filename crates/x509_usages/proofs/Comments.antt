@@ -101,7 +101,9 @@ or_whole_text_laws {E} is_memory p laws =
             | inr whole ↦ whole_read p agrees place text next k whole
           ];
           refused = λ place r k e. let w = refused_parts p place r e in (agrees.refused place r k w.0, w.1);
-          refusal = λ place r k h. ap (whole_text place) (agrees.refusal place r k h.0) ∙ is_refused {F = Refusal E} (is_utf8 place) place r h.1;
+          refusal = λ place r left k h. ap (whole_text place) (agrees.refusal place r left k h.0) ∙ is_refused {F = Refusal E} (is_utf8 place) place r h.1;
+          stops = λ more acts place r left outside k h. agrees.stops more acts place r left outside k h.0;
+          inside = λ place r left k h. agrees.inside place r left k h.0;
         };
         within = record {
           front = λ place text next k e. elim (read_parts p agrees place text next k e) [

@@ -24,9 +24,10 @@ abbrev pub or_whole_text : {F : Type 0} → Plan F (List ℕ) → Plan F (List �
 or_whole_text p = record {
   Is = λ place text next. p.Is place text next ⊎ IsWholeText p place text next;
   Plain = λ place text next. p.Plain place text next ⊎ IsWholeText p place text next;
-  Refuses = λ place r. p.Refuses place r × (is_utf8 place ≡ false);
+  Refuses = λ place r left. p.Refuses place r left × (is_utf8 place ≡ false);
   read = λ place. whole_text place (p.read place);
   marks = λ place. then_marks (p.read place) (λ text next. p.marks place);
+  stop = λ more. p.stop more;
 }
 
 unfoldable pub ns_comment : Field (List ℕ)

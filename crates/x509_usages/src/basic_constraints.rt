@@ -8,7 +8,7 @@ ghost use Rattle.x509_der.specs.Reading.{strict};
 ghost use Rattle.x509_usages.specs.BasicConstraints.{BasicConstraintsValue, basic_constraints_of, basic_constraints, basic_constraints_heads, basic_constraints_laws};
 
 use std::alloc::Global;
-use x509_der::{BerError, Elements, Err, FromDer, Place, Tries};
+use x509_der::{BerError, Err, Fields, FromDer, Place, Tries};
 use x509_fields::{X509Error, sequence_at};
 
 /// Whether the subject is a certification authority, and how long the paths below it may be (RFC 5280, section 4.2.1.9).
@@ -57,20 +57,14 @@ impl<'a> FromDer<'a, X509Error> for BasicConstraints {
         place: &Place<'a>,
     ) -> Result<(Self, bool), Err<X509Error>> {
         let contents = sequence_at(place)?;
-        let children: Elements<'_, 2> = Elements::cut(tries, contents);
-        let (k, ca) = match children.at(0).bool() {
-            Ok(ca) => (1, ca),
-            Err(_) => (0, false),
-        };
-        let (k, path_len_constraint) = match children.at(k).u32() {
-            Ok(number) => (k + 1, Some(number)),
-            Err(_) => (k, None),
-        };
-        if !children.at(k).bytes().is_empty() {
+        let fields = Fields::of(tries, contents);
+        let (fields, ca) = fields.soft_bool(tries);
+        let (fields, path_len_constraint) = fields.soft_u32(tries);
+        if !fields.are_over() {
             return Err(Err::Error(X509Error::Der(BerError::BerValueError)));
         }
         let constraints = BasicConstraints {
-            ca,
+            ca: ca.unwrap_or(false),
             path_len_constraint,
         };
         Ok((constraints, true))

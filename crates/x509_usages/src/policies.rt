@@ -1,13 +1,13 @@
 //! Policies that a certificate was issued under.
 
-ghost use Rattle.std.specs.Prelude.{◌+◌, ℕ, List, length, false, true};
+ghost use Rattle.std.specs.Prelude.{List, false, true};
 ghost use Rattle.x509_der.specs.Primitives.{is_constructed};
 ghost use Rattle.x509_der.specs.Reading.{strict};
 ghost use Rattle.x509_usages.specs.Policies.{PolicyQualifierValue, policy_qualifier_of, policy_qualifier, policy_qualifier_heads, policy_qualifier_laws, policy_qualifiers_of, policy_qualifiers, policy_qualifiers_heads, policy_qualifiers_laws, PolicyValue, policy_of, policy, policy_heads, policy_laws, policies_of, policies, policies_heads, policies_laws};
 
 use std::alloc::Global;
 use x509_der::{
-    BerError, Elements, Err, FromDer, Oid, Place, Sequence, Tries, read_run1, read_to_end, soft_at,
+    BerError, Err, Fields, FromDer, Oid, Place, Sequence, Tries, read_run1, read_to_end,
 };
 use x509_fields::{TryClone, X509Error, sequence_at};
 
@@ -54,11 +54,11 @@ impl<'a> FromDer<'a, BerError> for PolicyQualifierInfo<'a> {
         place: &Place<'a>,
     ) -> Result<(Self, bool), Err<BerError>> {
         let contents = place.sequence()?;
-        let first = Place::look(tries, contents);
-        let policy_qualifier_id = first.oid()?;
+        let fields = Fields::of(tries, contents);
+        let policy_qualifier_id = fields.place.oid()?;
         let info = PolicyQualifierInfo {
             policy_qualifier_id,
-            qualifier: first.rest(),
+            qualifier: fields.place.rest(),
         };
         Ok((info, true))
     }
@@ -150,15 +150,15 @@ impl<'a> FromDer<'a, BerError> for PolicyInformation<'a> {
         place: &Place<'a>,
     ) -> Result<(Self, bool), Err<BerError>> {
         let contents = place.sequence()?;
-        let children: Elements<'_, 2> = Elements::cut(tries, contents);
-        let policy_id = children.at(0).oid()?;
-        let (k, qualifiers, plain) = soft_at(alloc, tries, &children, 1)?;
+        let fields = Fields::of(tries, contents);
+        let (fields, policy_id) = fields.oid(tries)?;
+        let (fields, qualifiers) = fields.soft(alloc, tries)?;
         let policy_qualifiers = qualifiers.map(|q: PolicyQualifiers| q.list);
         let policy = PolicyInformation {
             policy_id,
             policy_qualifiers,
         };
-        Ok((policy, plain & children.at(k).bytes().is_empty()))
+        Ok((policy, fields.are_plain()))
     }
 
     ghost never_memory = { policy_laws.laws.never_memory };

@@ -8,7 +8,7 @@ ghost use Rattle.x509_der.specs.Reading.{strict};
 ghost use Rattle.x509_usages.specs.PolicyConstraints.{PolicyConstraintsValue, policy_constraints_of, policy_constraints, policy_constraints_heads, policy_constraints_laws};
 
 use std::alloc::Global;
-use x509_der::{BerError, Elements, Err, ErrorKind, FromDer, Place, Tries};
+use x509_der::{BerError, Err, ErrorKind, Fields, FromDer, Place, Tries};
 use x509_fields::{X509Error, sequence_at};
 
 /// From where on a path needs a policy, and from where on policies may not be mapped (RFC 5280, section 4.2.1.11).
@@ -58,16 +58,10 @@ impl<'a> FromDer<'a, X509Error> for PolicyConstraints {
         place: &Place<'a>,
     ) -> Result<(Self, bool), Err<X509Error>> {
         let contents = sequence_at(place)?;
-        let children: Elements<'_, 2> = Elements::cut(tries, contents);
-        let (k, require_explicit_policy) = match children.at(0).implicit_u32(0) {
-            Ok(number) => (1, Some(number)),
-            Err(_) => (0, None),
-        };
-        let (k, inhibit_policy_mapping) = match children.at(k).implicit_u32(1) {
-            Ok(number) => (k + 1, Some(number)),
-            Err(_) => (k, None),
-        };
-        if !children.at(k).bytes().is_empty() {
+        let fields = Fields::of(tries, contents);
+        let (fields, require_explicit_policy) = fields.soft_implicit_u32(tries, 0);
+        let (fields, inhibit_policy_mapping) = fields.soft_implicit_u32(tries, 1);
+        if !fields.are_over() {
             let why = BerError::NomError(ErrorKind::Eof);
             return Err(Err::Error(X509Error::Der(why)));
         }

@@ -12,7 +12,7 @@ ghost use Rattle.x509_usages.specs.PolicyMapping.{PolicyMappingValue, policy_map
 use std::alloc::Global;
 use std::collections::HashMap;
 use std::hash::BuildHasher;
-use x509_der::{BerError, Err, FromDer, Oid, Place, Sequence, Tries, Two, read_to_end};
+use x509_der::{BerError, Err, Fields, FromDer, Oid, Place, Sequence, Tries, read_to_end};
 use x509_fields::{TryClone, X509Error, sequence_at};
 use x509_parts::add_to_group;
 
@@ -71,14 +71,14 @@ impl<'a> FromDer<'a, BerError> for PolicyMapping<'a> {
         place: &Place<'a>,
     ) -> Result<(Self, bool), Err<BerError>> {
         let contents = place.sequence()?;
-        let Two { first, second } = Two::cut(tries, contents);
-        let issuer_domain_policy = first.oid()?;
-        let subject_domain_policy = second.oid()?;
+        let fields = Fields::of(tries, contents);
+        let (fields, issuer_domain_policy) = fields.oid(tries)?;
+        let subject_domain_policy = fields.place.oid()?;
         let mapping = PolicyMapping {
             issuer_domain_policy,
             subject_domain_policy,
         };
-        Ok((mapping, second.rest().is_empty()))
+        Ok((mapping, fields.ends_here()))
     }
 
     ghost never_memory = { policy_mapping_laws.laws.never_memory };

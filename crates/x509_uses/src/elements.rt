@@ -4,7 +4,10 @@ ghost use Rattle.std.specs.Prelude.{◌≡◌};
 ghost use Rattle.std.specs.Option.{is_some};
 ghost use Rattle.x509_objects.specs.Registry.{registered};
 
-use x509_parser::der::{BerError, Err, Oid, Tries, read_oid, read_sequence};
+use std::alloc::{AllocError, Global};
+use x509_parser::der::{
+    BerError, Children, Err, Header, Oid, Stop, Tries, read_oid, read_sequence,
+};
 use x509_parser::objects::OidRegistry;
 
 /// The identifier at the front of a SEQUENCE, as in an AlgorithmIdentifier, and what stands behind the SEQUENCE.
@@ -20,4 +23,20 @@ pub fn is_known(registry: &OidRegistry<'static>, octets: &[u8]) -> bool
     ensures { result ≡ is_some (registered registry.now octets.now) }
 {
     matches!(registry.get(&Oid::new(octets)), Some(_))
+}
+
+/// What stands in a container that no type describes: the headers of its first twelve members, in order, and why no more are
+/// listed.
+pub fn outline<'a>(
+    alloc: Global,
+    contents: &'a [u8],
+) -> Result<(Vec<Header>, Stop<'a>), AllocError> {
+    let children = Children::cut(&mut Tries::new(), contents);
+    let mut headers = Vec::new(alloc);
+    for k in 0..children.count() {
+        if let Some(child) = children.get(k) {
+            headers.push(child.header)?;
+        }
+    }
+    Ok((headers, children.stop()))
 }

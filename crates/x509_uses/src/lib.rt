@@ -6,7 +6,7 @@
 //! `IsFront grammar bytes value rest` says that a front of the bytes stands for the value, and the rest behind it.
 #![tactic(auto)]
 
-ghost use Rattle.std.specs.Prelude.{◌≡◌, ◌≤◌, ◌<◌, ◌+◌, ◌*◌, ◌++◌, ◌↔◌, Bool, true, false, length, All, IsTrue, IsNone, IfSome, IfOk, IfErr};
+ghost use Rattle.std.specs.Prelude.{◌≡◌, ◌≤◌, ◌<◌, ◌+◌, ◌*◌, ◌++◌, ◌↔◌, ℕ, Bool, true, false, length, All, IsTrue, IsNone, IfSome, IfOk, IfErr};
 ghost use Rattle.x509_der.specs.Promises.{Answers, IsFront, is_excused};
 ghost use Rattle.x509_fields.specs.Errors.{is_x509_memory};
 ghost use Rattle.x509_certs.specs.Certificate.{certificate, certificate_of, certificate_at_depth};
@@ -28,7 +28,7 @@ mod revocation;
 mod visiting;
 
 pub use certificates::{days_left, days_valid, has_strong_key, hosts};
-pub use elements::{first_identifier, is_known};
+pub use elements::{first_identifier, is_known, outline};
 pub use linting::{CriticalExtensions, SerialLength};
 pub use refusals::{Next, is_another_structure, next_after};
 pub use requests::is_modest;
@@ -58,7 +58,7 @@ pub fn admit<'a>(alloc: Global, input: &'a [u8]) -> X509Result<'a, X509Certifica
     ensures taken { IfOk result (λ x. (deep : Bool)
         → IsFront (certificate deep) input.now (certificate_at_depth deep (certificate_of x.1)) x.0.now) }
     ensures refused { IfErr result (λ e. is_excused is_x509_memory true e ≡ false
-        → (deep : Bool) → (certificate deep).Refuses input.now e) }
+        → (deep : Bool) → (left : ℕ) × (certificate deep).Refuses input.now e left) }
 {
     X509CertificateParser::new()
         .with_deep_parse_extensions(false)

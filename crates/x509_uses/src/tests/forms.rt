@@ -3,11 +3,11 @@
 use super::kept;
 use crate::{
     Next, count_revoked, days_left, days_valid, entry_of, first_identifier, has_strong_key, hosts,
-    is_another_structure, is_known, is_modest, next_after,
+    is_another_structure, is_known, is_modest, next_after, outline,
 };
 use std::test::Fail;
 use x509_parser::certification_request::X509CertificationRequest;
-use x509_parser::der::{FromDer, UnsignedBytes};
+use x509_parser::der::{FromDer, Stop, Tag, UnsignedBytes};
 use x509_parser::objects::oid_registry;
 use x509_parser::{parse_x509_certificate, parse_x509_crl};
 
@@ -108,6 +108,15 @@ fn of_an_element(rt: HostRuntime) -> Result<(), Fail> {
     assert_eq!(rt; rest, b"\x01".as_slice());
     assert_eq!(rt; id.as_bytes(), b"\x2A".as_slice());
     assert!(rt; first_identifier(b"\x30\x00").is_err());
+    let (headers, stop) = kept(
+        rt.alloc(),
+        outline(rt.alloc(), b"\x05\x00\x02\x01\x07\x30\x02\x05")?,
+    )?;
+    let [null, number] = headers.as_slice() else {
+        return Err(Fail::from("not two members"));
+    };
+    assert_eq!(rt; (null.tag, number.tag), (Tag::Null, Tag::Integer));
+    assert!(rt; matches!(stop, Stop::Short { .. }));
     Ok(())
 }
 

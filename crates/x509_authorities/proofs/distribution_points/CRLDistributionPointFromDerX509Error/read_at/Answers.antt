@@ -1,6 +1,16 @@
 use Rattle.std.proofs.Common.{rules}
+use Rattle.x509_der.proofs.Steps.{marks_of_fields}
+use Rattle.x509_authorities.specs.DistributionPoints.{crl_distribution_point}
 use Rattle.x509_authorities.proofs.distribution_points.CRLDistributionPointFromDerX509Error.read_at.Goals as goal
-use Rattle.x509_authorities.proofs.distribution_points.CRLDistributionPointFromDerX509Error.read_at.Goals.{in-Ok, in-Err}
 
-pub returns-in_err-k-2-clause-count : goal.returns-in_err-k-2-clause-count
-returns-in_err-k-2-clause-count c = elim c.match-reasons_at.branch [ in-Ok w ↦ search rules | in-Err w ↦ search rules ]
+pub returns-clause-reads : goal.returns-clause-reads
+unfolding crl_distribution_point
+returns-clause-reads c = record {
+  reads = search (rules, marks_of_fields);
+  marks = search (rules, marks_of_fields);
+  grows = search rules;
+  count = search rules;
+  foreign = search rules;
+  least = search rules;
+  there = search rules;
+}

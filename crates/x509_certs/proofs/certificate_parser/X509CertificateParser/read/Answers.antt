@@ -14,5 +14,5 @@ returns-else-self-clause-stands c =
 pub returns-in-Err-clause-refused_at_any_depth : goal.returns-in-Err-clause-refused_at_any_depth
 returns-in-Err-clause-refused_at_any_depth c = λ loosely.
     let deep = is_deep c.args.self.now in
-    let reads = subst (λ (bytes : List ℕ). Answers is_x509_memory true (λ (x : List ℕ × Certificate). x) (Err c.in-Err.e) ((certificate_by deep false).read bytes)) c.look-place.ensures.bytes c.in-Err.ensures.reads in
+    let reads = subst (λ (bytes : List ℕ). Answers is_x509_memory true (λ (x : List ℕ × Certificate). x) (Err c.in-Err.e) ((certificate_by deep false).read bytes)) c.look-place.ensures.bytes c.in-Err.ensures.reads.reads in
     certificate_refused deep false (λ (x : List ℕ × Certificate). x) (Err c.in-Err.e) c.args.i.now (λ k. omega (arith, c.type_inv.i k)) reads refl

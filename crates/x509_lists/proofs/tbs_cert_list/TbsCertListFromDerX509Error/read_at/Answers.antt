@@ -1,16 +1,34 @@
-use Rattle.std.proofs.Common.{refl, ap, length, arith}
-use Rattle.x509_der.specs.Children.{window_of}
+use Rattle.std.proofs.Common.{rules, refl, ap, length, arith}
+use Rattle.std.proofs.Math.Bool.{and_assoc}
+use Rattle.x509_der.proofs.Marking.{marks_of_readers}
+use Rattle.x509_lists.specs.TbsCertList.{tbs_list}
 use Rattle.x509_lists.proofs.Budget.{closing_tries}
 use Rattle.x509_lists.proofs.tbs_cert_list.TbsCertListFromDerX509Error.read_at.Goals as goal
 
-pub returns-clause-count : goal.returns-clause-count
-returns-clause-count c =
-    let window = window_of c.cut-children.result in
-    let closing = closing_tries window _ c.in-Ok.k c.in-Ok-soft_at.k 0 c.in-Ok-soft_at.revoked _ _ _ refl c.at.ensures.place c.in-Ok-soft_at.ensures.count c.in-Ok-soft_at.ensures.grows c.in-Ok-soft_at.ensures.foreign c.in-Ok-read_wrapped_at.ensures.count c.in-Ok-read_wrapped_at.ensures.foreign in
-    omega (arith, closing, ap length c.cut-children.ensures.window, c.cut-children.ensures.few, c.in-Ok.ensures.sizes, c.read_version-k.ensures.sizes, c.in_ok-contents.ensures.sizes)
+pub returns-clause-reads : goal.returns-clause-reads
+unfolding tbs_list
+returns-clause-reads c =
+    let closing = closing_tries _ _ 0 _ _ _ _ refl c.in-Ok-soft.ensures.count c.in-Ok-soft.ensures.grows c.in-Ok-soft.ensures.foreign c.in-Ok-read_wrapped_at.ensures.count c.in-Ok-read_wrapped_at.ensures.foreign in
+    record {
+      reads = search (rules, marks_of_readers);
+      marks = search (rules, marks_of_readers, and_assoc);
+      grows = search rules;
+      count = omega (arith, closing, c.of-fields.ensures.tries.few, ap length c.of-fields.ensures.place, c.in-Ok.ensures.sizes, c.read_version-version.ensures.count, c.in_ok-contents.ensures.sizes);
+      foreign = search rules;
+      least = search rules;
+      there = search rules;
+    }
 
-pub returns-in-Err-read_wrapped_at-clause-count : goal.returns-in-Err-read_wrapped_at-clause-count
-returns-in-Err-read_wrapped_at-clause-count c =
-    let window = window_of c.cut-children.result in
-    let closing = closing_tries window _ c.in-Ok.k c.in-Ok-soft_at.k 0 c.in-Ok-soft_at.revoked _ _ _ refl c.at.ensures.place c.in-Ok-soft_at.ensures.count c.in-Ok-soft_at.ensures.grows c.in-Ok-soft_at.ensures.foreign c.in-Err-read_wrapped_at.ensures.count c.in-Err-read_wrapped_at.ensures.foreign in
-    omega (arith, closing, ap length c.cut-children.ensures.window, c.cut-children.ensures.few, c.in-Ok.ensures.sizes, c.read_version-k.ensures.sizes, c.in_ok-contents.ensures.sizes)
+pub returns-in-Err-read_wrapped_at-clause-reads : goal.returns-in-Err-read_wrapped_at-clause-reads
+unfolding tbs_list
+returns-in-Err-read_wrapped_at-clause-reads c =
+    let closing = closing_tries _ _ 0 _ _ _ _ refl c.in-Ok-soft.ensures.count c.in-Ok-soft.ensures.grows c.in-Ok-soft.ensures.foreign c.in-Err-read_wrapped_at.ensures.count c.in-Err-read_wrapped_at.ensures.foreign in
+    record {
+      reads = search (rules, marks_of_readers);
+      marks = search (rules, marks_of_readers);
+      grows = search rules;
+      count = omega (arith, closing, c.of-fields.ensures.tries.few, ap length c.of-fields.ensures.place, c.in-Ok.ensures.sizes, c.read_version-version.ensures.count, c.in_ok-contents.ensures.sizes);
+      foreign = search rules;
+      least = search rules;
+      there = search rules;
+    }

@@ -1,0 +1,16 @@
+use Rattle.std.proofs.Common.{rules}
+use Rattle.x509_der.proofs.Marking.{marks_of_readers}
+use Rattle.der_example.specs.Notice.{notice}
+use Rattle.der_example.proofs.notice.NoticeFromDerBerError.read_at.Goals as goal
+
+pub returns-in_err-limit-clause-reads : goal.returns-in_err-limit-clause-reads
+unfolding notice
+returns-in_err-limit-clause-reads c = record {
+  reads = search (rules, marks_of_readers);
+  marks = search rules;
+  grows = search rules;
+  count = search rules;
+  foreign = search rules;
+  least = search rules;
+  there = search rules;
+}

@@ -1,0 +1,269 @@
+//! The fields of a container, one behind the other, each looked at when the cursor comes to it.
+
+ghost use Rattle.std.specs.Prelude.{◌≡◌, ◌≤◌, ◌+◌, ◌&&◌, true, min, length, List, ℕ};
+ghost use Rattle.x509_der.specs.Cut.{Cut};
+ghost use Rattle.x509_der.specs.Fields.{next_of, plain_in, ahead, LooksOnce, ReadsLast, ReadsNext, ReadsSoft, StepsLeaf, StepsSoftLeaf};
+ghost use Rattle.x509_der.specs.Integer.{integer_bytes};
+ghost use Rattle.x509_der.specs.Leaves.{bool, bool_loose, u32, integer, implicit, implicit_u32, oid, octets};
+ghost use Rattle.x509_der.specs.Looks.{behind, is_element, tried_behind};
+ghost use Rattle.x509_der.specs.Oid.{oid_bytes};
+ghost use Rattle.x509_der.specs.Plan.{nothing_left};
+ghost use Rattle.x509_der.specs.Promises.{option_view};
+ghost use Rattle.x509_der.specs.Reading.{AddsAtLeast, Element, TriesOnce};
+
+use crate::error::{BerError, Err, ReadError};
+use crate::from_der::{FromDer, ReadAt};
+use crate::integer::Integer;
+use crate::oid::Oid;
+use crate::place::Place;
+use crate::tries::Tries;
+use std::alloc::Global;
+
+/// Where a reader stands in the fields of a container: the next field's place, whose header was looked at, and whether all
+/// fields so far stand plainly.
+#[derive(Clone, Copy, Debug)]
+pub struct Fields<'a> {
+    /// The next field's place.
+    pub place: Place<'a>,
+    pub(crate) plain: bool,
+}
+
+impl<'a> Fields<'a> {
+    /// Before the first field of these contents.
+    #[inline(always)]
+    pub fn of(tries: &mut Tries, contents: &'a [u8]) -> Fields<'a>
+        ensures place { next_of result ≡ contents.now }
+        ensures plain { plain_in result ≡ true }
+        ensures tries { TriesOnce tries.old tries.new contents.now }
+        // One for each member of the contents at most, and one where they have a tail.
+        ensures once { (members : List Element) (tail : List ℕ) → Cut contents.now members tail → tries.new + ahead (next_of result) ≤ tries.old + length members + min 1 (length tail) }
+    {
+        Fields {
+            place: Place::look(tries, contents),
+            plain: true,
+        }
+    }
+
+    /// Behind the field that stands here, with its mark.
+    #[inline(always)]
+    pub fn behind(&self, tries: &mut Tries, plain: bool) -> Fields<'a>
+        ensures place { next_of result ≡ behind (next_of self.now) }
+        ensures plain { plain_in result ≡ (plain_in self.now && plain) }
+        ensures exact { tries.new ≡ tried_behind tries.old (next_of self.now) }
+        ensures few_tries { tries.new ≤ tries.old + min (length (behind (next_of self.now))) 1 }
+        ensures some { is_element (next_of self.now) ≡ true → AddsAtLeast (min (length (behind (next_of self.now))) 1) tries.old tries.new }
+        ensures grows { tries.old ≤ tries.new }
+        ensures once { LooksOnce (next_of self.now) (next_of result) tries.old tries.new }
+    {
+        Fields {
+            place: self.place.next(tries),
+            plain: self.plain & plain,
+        }
+    }
+
+    /// The next field.
+    #[inline(always)]
+    pub fn field<E: ReadError, T: FromDer<'a, E>>(
+        &self,
+        alloc: Global,
+        tries: &mut Tries,
+    ) -> Result<(Fields<'a>, T), Err<E>>
+        ensures { ReadsNext E.is_memory T.takes_memory T.heads (λ x. (next_of x.0, T.view x.1)) (λ x. plain_in x.0) T.plan T.tight (plain_in self.now) (next_of self.now) tries.old tries.new result }
+    {
+        match T::read_at(alloc, tries, &self.place) {
+            Ok((value, plain)) => Ok((self.behind(tries, plain), value)),
+            Err(e) => Err(e),
+        }
+    }
+
+    /// The last field, and whether all fields stand plainly, with nothing behind them. What stands behind it isn't looked at.
+    #[inline(always)]
+    pub fn last<E: ReadError, T: FromDer<'a, E>>(
+        &self,
+        alloc: Global,
+        tries: &mut Tries,
+    ) -> Result<(T, bool), Err<E>>
+        ensures { ReadsLast E.is_memory T.takes_memory T.heads T.view T.plan T.tight (plain_in self.now) (next_of self.now) tries.old tries.new result }
+    {
+        match T::read_at(alloc, tries, &self.place) {
+            Ok((value, plain)) => Ok((value, self.plain & (plain & self.place.rest().is_empty()))),
+            Err(e) => Err(e),
+        }
+    }
+
+    /// The next field, which may be absent: where it doesn't read, the cursor stays.
+    #[inline(always)]
+    pub fn soft<E: ReadError, T: FromDer<'a, E> + Drop>(
+        &self,
+        alloc: Global,
+        tries: &mut Tries,
+    ) -> Result<(Fields<'a>, Option<T>), Err<E>>
+        ensures { ReadsSoft E.is_memory T.form T.own_tag T.heads (λ x. (next_of x.0, option_view T.view x.1)) (λ x. plain_in x.0) T.plan T.tight (plain_in self.now) (next_of self.now) tries.old tries.new result }
+    {
+        match T::read_at(alloc, tries, &self.place) {
+            Ok((value, plain)) => Ok((self.behind(tries, plain), Some(value))),
+            Err(why) => {
+                if why.is_out_of_memory() {
+                    return Err(why);
+                }
+                Ok((*self, None))
+            }
+        }
+    }
+
+    /// The next field, by a reader with settings, which may be absent: where it doesn't read, the cursor stays.
+    #[inline(always)]
+    pub fn soft_by<E: ReadError, X: Drop, R: ReadAt<'a, E, X>>(
+        &self,
+        reader: &R,
+        alloc: Global,
+        tries: &mut Tries,
+    ) -> Result<(Fields<'a>, Option<X>), Err<E>>
+        ensures { ReadsSoft E.is_memory R.form (R.own_tag reader.now) R.heads (λ x. (next_of x.0, option_view R.view x.1)) (λ x. plain_in x.0) (R.plan reader.now) R.tight (plain_in self.now) (next_of self.now) tries.old tries.new result }
+    {
+        match reader.read_at(alloc, tries, &self.place) {
+            Ok((value, plain)) => Ok((self.behind(tries, plain), Some(value))),
+            Err(why) => {
+                if why.is_out_of_memory() {
+                    return Err(why);
+                }
+                Ok((*self, None))
+            }
+        }
+    }
+
+    /// An object identifier.
+    #[inline(always)]
+    #[tactic(auto, using(crate::proofs::Marking::marks_of_readers))]
+    pub fn oid(&self, tries: &mut Tries) -> Result<(Fields<'a>, Oid<'a>), Err<BerError>>
+        ensures { StepsLeaf (λ x. (next_of x.0, oid_bytes x.1)) (λ x. plain_in x.0) oid (plain_in self.now) (next_of self.now) tries.old tries.new result }
+    {
+        let value = self.place.oid()?;
+        Ok((self.behind(tries, true), value))
+    }
+
+    /// An OCTET STRING in its primitive form.
+    #[inline(always)]
+    #[tactic(auto, using(crate::proofs::Marking::marks_of_readers))]
+    pub fn octets(&self, tries: &mut Tries) -> Result<(Fields<'a>, &'a [u8]), Err<BerError>>
+        ensures { StepsLeaf (λ x. (next_of x.0, x.1.now)) (λ x. plain_in x.0) octets (plain_in self.now) (next_of self.now) tries.old tries.new result }
+    {
+        let value = self.place.octets()?;
+        Ok((self.behind(tries, true), value))
+    }
+
+    /// An INTEGER from 0 to 4,294,967,295.
+    #[inline(always)]
+    #[tactic(auto, using(crate::proofs::Marking::marks_of_readers))]
+    pub fn u32(&self, tries: &mut Tries) -> Result<(Fields<'a>, u32), Err<BerError>>
+        ensures { StepsLeaf (λ x. (next_of x.0, x.1)) (λ x. plain_in x.0) u32 (plain_in self.now) (next_of self.now) tries.old tries.new result }
+    {
+        let value = self.place.u32()?;
+        Ok((self.behind(tries, true), value))
+    }
+
+    /// An INTEGER of any size.
+    #[inline(always)]
+    #[tactic(auto, using(crate::proofs::Marking::marks_of_readers))]
+    pub fn integer(&self, tries: &mut Tries) -> Result<(Fields<'a>, Integer<'a>), Err<BerError>>
+        ensures { StepsLeaf (λ x. (next_of x.0, integer_bytes x.1)) (λ x. plain_in x.0) integer (plain_in self.now) (next_of self.now) tries.old tries.new result }
+    {
+        let value = self.place.integer()?;
+        Ok((self.behind(tries, true), value))
+    }
+
+    /// A BOOLEAN that may be absent.
+    #[inline(always)]
+    #[tactic(auto, using(crate::proofs::Marking::marks_of_readers))]
+    pub fn soft_bool(&self, tries: &mut Tries) -> (Fields<'a>, Option<bool>)
+        ensures { StepsSoftLeaf (λ x. (next_of x.0, x.1)) (λ x. plain_in x.0) bool (plain_in self.now) (next_of self.now) tries.old tries.new result }
+    {
+        match self.place.bool() {
+            Ok(value) => (self.behind(tries, true), Some(value)),
+            Err(_) => (*self, None),
+        }
+    }
+
+    /// A BOOLEAN by the basic rules that may be absent, and whether it is one by the strict rules too.
+    #[inline(always)]
+    #[tactic(auto, using(crate::proofs::Marking::marks_of_readers))]
+    pub fn soft_bool_loose(&self, tries: &mut Tries) -> (Fields<'a>, Option<bool>)
+        ensures { StepsSoftLeaf (λ x. (next_of x.0, x.1)) (λ x. plain_in x.0) bool_loose (plain_in self.now) (next_of self.now) tries.old tries.new result }
+    {
+        match self.place.bool_marked() {
+            Ok((value, plain)) => (self.behind(tries, plain), Some(value)),
+            Err(_) => (*self, None),
+        }
+    }
+
+    /// An INTEGER from 0 to 4,294,967,295 that may be absent.
+    #[inline(always)]
+    #[tactic(auto, using(crate::proofs::Marking::marks_of_readers))]
+    pub fn soft_u32(&self, tries: &mut Tries) -> (Fields<'a>, Option<u32>)
+        ensures { StepsSoftLeaf (λ x. (next_of x.0, x.1)) (λ x. plain_in x.0) u32 (plain_in self.now) (next_of self.now) tries.old tries.new result }
+    {
+        match self.place.u32() {
+            Ok(value) => (self.behind(tries, true), Some(value)),
+            Err(_) => (*self, None),
+        }
+    }
+
+    /// Octets under this context tag, in their primitive form, that may be absent.
+    #[inline(always)]
+    #[tactic(auto, using(crate::proofs::Marking::marks_of_readers))]
+    pub fn soft_implicit(&self, tries: &mut Tries, number: u32) -> (Fields<'a>, Option<&'a [u8]>)
+        ensures { StepsSoftLeaf (λ x. (next_of x.0, option_view (λ octets. octets.now) x.1)) (λ x. plain_in x.0) (implicit number) (plain_in self.now) (next_of self.now) tries.old tries.new result }
+    {
+        match self.place.implicit(number) {
+            Ok(octets) => (self.behind(tries, true), Some(octets)),
+            Err(_) => (*self, None),
+        }
+    }
+
+    /// A number of at most 32 bits under this context tag that may be absent.
+    #[inline(always)]
+    #[tactic(auto, using(crate::proofs::Marking::marks_of_readers))]
+    pub fn soft_implicit_u32(&self, tries: &mut Tries, number: u32) -> (Fields<'a>, Option<u32>)
+        ensures { StepsSoftLeaf (λ x. (next_of x.0, x.1)) (λ x. plain_in x.0) (implicit_u32 number) (plain_in self.now) (next_of self.now) tries.old tries.new result }
+    {
+        match self.place.implicit_u32(number) {
+            Ok(value) => (self.behind(tries, true), Some(value)),
+            Err(_) => (*self, None),
+        }
+    }
+
+    /// Whether all fields stand plainly, with nothing behind them.
+    #[inline(always)]
+    pub fn are_plain(&self) -> bool
+        ensures { result ≡ (plain_in self.now && nothing_left (next_of self.now)) }
+    {
+        self.plain & self.place.bytes().is_empty()
+    }
+
+    /// The same where the last field stands here: nothing behind it is looked at.
+    #[inline(always)]
+    pub fn ends_here(&self) -> bool
+        ensures { result ≡ (plain_in self.now && nothing_left (behind (next_of self.now))) }
+    {
+        self.plain & self.place.rest().is_empty()
+    }
+
+    /// Whether all fields so far stand plainly, whatever is left behind them.
+    #[inline(always)]
+    pub fn plain_so_far(&self) -> bool
+        ensures { result ≡ plain_in self.now }
+    {
+        self.plain
+    }
+
+    /// Whether no field is left.
+    #[inline(always)]
+    pub fn are_over(&self) -> bool
+        ensures { result ≡ nothing_left (next_of self.now) }
+    {
+        self.place.bytes().is_empty()
+    }
+}
+
+#[cfg(test)]
+mod tests;
