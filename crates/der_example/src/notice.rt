@@ -1,13 +1,13 @@
 //! A structure of two fields that may be absent and one that may not.
 
-ghost use Rattle.std.specs.Prelude.{◌+◌, ℕ, List, length, true};
+ghost use Rattle.std.specs.Prelude.{true};
 ghost use Rattle.x509_der.specs.Primitives.{is_constructed};
 ghost use Rattle.x509_der.specs.Reading.{strict};
 ghost use Rattle.der_example.specs.Notice.{NoticeValue, notice_of, notice, notice_heads, notice_laws};
 
 use crate::topic::{Editions, Topics};
 use std::alloc::Global;
-use x509_der::{BerError, Err, Fields, FromDer, Place, Tries};
+use x509_der::{BerError, Fields, FromDer, Outside, Place, Refused, Tries};
 
 /// A notice.
 #[derive(Drop)]
@@ -37,13 +37,13 @@ impl<'a> FromDer<'a, BerError> for Notice<'a> {
     ghost takes_memory = { true };
 
     #[tactic(auto, unfolding(crate::specs::Notice::notice), using(x509_der::proofs::Marking::marks_of_readers))]
-    fn read_at(
+    fn read_at<L: Outside>(
         alloc: Global,
         tries: &mut Tries,
-        place: &Place<'a>,
-    ) -> Result<(Self, bool), Err<BerError>> {
+        place: &Place<'a, L>,
+    ) -> Result<(Self, bool), Refused<BerError, L>> {
         let contents = place.sequence()?;
-        let fields = Fields::of(tries, contents);
+        let fields = Fields::of(tries, &contents);
         let (fields, topics) = fields.soft(alloc, tries)?;
         let (fields, editions) = fields.soft(alloc, tries)?;
         let limit = fields.place.u32()?;

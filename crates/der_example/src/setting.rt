@@ -8,7 +8,7 @@ ghost use Rattle.x509_der.specs.Reading.{strict};
 ghost use Rattle.der_example.specs.Setting.{SettingValue, setting_of, setting, setting_heads, setting_laws};
 
 use std::alloc::Global;
-use x509_der::{BerError, Err, Fields, FromDer, Place, Tries};
+use x509_der::{BerError, Err, Fields, FromDer, Outside, Place, Refused, Tries};
 
 /// Whether something is on, and how much.
 #[derive(Clone, Copy, Debug, PartialEq, Eq)]
@@ -39,17 +39,17 @@ impl<'a> FromDer<'a, BerError> for Setting {
     ghost tight = { OneTryEach sequence };
 
     #[tactic(auto, unfolding(crate::specs::Setting::setting, crate::specs::Setting::setting_fields), using(x509_der::proofs::Marking::marks_of_readers))]
-    fn read_at(
+    fn read_at<L: Outside>(
         _alloc: Global,
         tries: &mut Tries,
-        place: &Place<'a>,
-    ) -> Result<(Self, bool), Err<BerError>> {
+        place: &Place<'a, L>,
+    ) -> Result<(Self, bool), Refused<BerError, L>> {
         let contents = place.sequence()?;
-        let fields = Fields::of(tries, contents);
+        let fields = Fields::of(tries, &contents);
         let (fields, on) = fields.soft_bool(tries);
         let (fields, level) = fields.soft_u32(tries);
         if !fields.are_over() {
-            return Err(Err::Error(BerError::BerValueError));
+            return Err(fields.place.refuse(Err::Error(BerError::BerValueError)));
         }
         Ok((Setting { on, level }, true))
     }

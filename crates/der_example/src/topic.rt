@@ -1,12 +1,14 @@
 //! Identifiers, and lists of them.
 
-ghost use Rattle.std.specs.Prelude.{◌+◌, ℕ, List, length, false, true};
+ghost use Rattle.std.specs.Prelude.{ℕ, List, false, true};
 ghost use Rattle.x509_der.specs.Primitives.{is_constructed, is_primitive};
 ghost use Rattle.x509_der.specs.Reading.{strict};
 ghost use Rattle.der_example.specs.Topics.{topic_of, topics_of, editions_of, topic, topics, editions, list_heads, topic_laws, topics_laws, editions_laws};
 
 use std::alloc::Global;
-use x509_der::{BerError, Err, FromDer, Oid, Place, Sequence, Tries, read_run1, read_to_end};
+use x509_der::{
+    BerError, FromDer, Oid, Outside, Place, Refused, Sequence, Tries, read_run1, read_to_end,
+};
 
 /// What a notice is about.
 #[derive(Clone, Copy)]
@@ -34,11 +36,11 @@ impl<'a> FromDer<'a, BerError> for Topic<'a> {
     ghost takes_memory = { false };
 
     #[tactic(auto, unfolding(crate::specs::Topics::topic, x509_der::specs::Leaves::oid, x509_der::specs::Primitives::contents_at), using(x509_der::proofs::Marking::marks_of_readers))]
-    fn read_at(
+    fn read_at<L: Outside>(
         _alloc: Global,
         _tries: &mut Tries,
-        place: &Place<'a>,
-    ) -> Result<(Self, bool), Err<BerError>> {
+        place: &Place<'a, L>,
+    ) -> Result<(Self, bool), Refused<BerError, L>> {
         let id = place.oid()?;
         Ok((Topic { id }, true))
     }
@@ -72,13 +74,13 @@ impl<'a> FromDer<'a, BerError> for Topics<'a> {
     ghost takes_memory = { true };
 
     #[tactic(auto, unfolding(crate::specs::Topics::topics), using(x509_der::proofs::Marking::marks_of_readers))]
-    fn read_at(
+    fn read_at<L: Outside>(
         alloc: Global,
         tries: &mut Tries,
-        place: &Place<'a>,
-    ) -> Result<(Self, bool), Err<BerError>> {
+        place: &Place<'a, L>,
+    ) -> Result<(Self, bool), Refused<BerError, L>> {
         let contents = place.sequence()?;
-        let (list, plain) = read_to_end(alloc, tries, contents)?;
+        let (list, plain) = read_to_end(alloc, tries, &contents)?;
         Ok((Topics { list }, plain))
     }
 
@@ -111,13 +113,13 @@ impl<'a> FromDer<'a, BerError> for Editions<'a> {
     ghost takes_memory = { true };
 
     #[tactic(auto, unfolding(crate::specs::Topics::editions), using(x509_der::proofs::Marking::marks_of_readers))]
-    fn read_at(
+    fn read_at<L: Outside>(
         alloc: Global,
         tries: &mut Tries,
-        place: &Place<'a>,
-    ) -> Result<(Self, bool), Err<BerError>> {
+        place: &Place<'a, L>,
+    ) -> Result<(Self, bool), Refused<BerError, L>> {
         let contents = place.set()?;
-        let (tail, list, plain) = read_run1(alloc, tries, contents)?;
+        let (tail, list, plain) = read_run1(alloc, tries, &contents)?;
         Ok((Editions { list }, plain & tail.is_empty()))
     }
 

@@ -8,7 +8,7 @@ ghost use Rattle.x509_authorities.specs.AuthorityKeyIdentifier.{AuthorityKeyIden
 use crate::implicit_names::ImplicitNames;
 use crate::key_identifier::KeyIdentifier;
 use std::alloc::Global;
-use x509_der::{Err, Fields, FromDer, Place, Sequence, Tries};
+use x509_der::{Fields, FromDer, Outside, Place, Refused, Sequence, Tries};
 use x509_fields::{TryClone, X509Error, sequence_at};
 use x509_general_names::GeneralName;
 
@@ -54,13 +54,13 @@ impl<'a> FromDer<'a, X509Error> for AuthorityKeyIdentifier<'a> {
     ghost takes_memory = { true };
 
     #[tactic(auto, unfolding(crate::specs::AuthorityKeyIdentifier::authority_key_identifier), using(x509_der::proofs::Steps::marks_of_fields))]
-    fn read_at(
+    fn read_at<L: Outside>(
         alloc: Global,
         tries: &mut Tries,
-        place: &Place<'a>,
-    ) -> Result<(Self, bool), Err<X509Error>> {
+        place: &Place<'a, L>,
+    ) -> Result<(Self, bool), Refused<X509Error, L>> {
         let contents = sequence_at(place)?;
-        let fields = Fields::of(tries, contents);
+        let fields = Fields::of(tries, &contents);
         let (fields, octets) = fields.soft_implicit(tries, 0);
         let (fields, authority_cert_issuer) = fields.soft_by(
             &ImplicitNames { number: 1 },

@@ -1,16 +1,18 @@
 //! The names of distribution points.
 
-ghost use Rattle.std.specs.Prelude.{◌≡◌, ◌≤◌, ◌+◌, ◌-◌, ◌*◌, true, length, IfOk};
-ghost use Rattle.x509_der.specs.Place.{at};
+ghost use Rattle.std.specs.Prelude.{◌≡◌, ◌≤◌, ◌+◌, ◌*◌, true, length, IfOk};
+ghost use Rattle.x509_der.specs.Place.{at, outside_of, bytes_in, outside_in};
 ghost use Rattle.x509_der.specs.Primitives.{is_explicit};
-ghost use Rattle.x509_der.specs.Promises.{Answers};
-ghost use Rattle.x509_der.specs.Reading.{AddsAtLeast, Gives, strict};
+ghost use Rattle.x509_der.specs.Reading.{AddsAtLeast, strict};
 ghost use Rattle.x509_fields.specs.Errors.{is_x509_memory};
 ghost use Rattle.x509_authorities.specs.DistributionPointName.{PointName, point_name_of, choice_header, is_choice, closes, point_name, point_name_heads, distribution_point_name, distribution_point_name_heads, distribution_point_name_laws};
+ghost use Rattle.x509_der.specs.Promises.{AnswersAt, GivesAt};
 
 use crate::implicit_names::some_names_in;
 use std::alloc::Global;
-use x509_der::{BerError, Class, Err, FromDer, Header, Place, Sequence, Tag, Tries};
+use x509_der::{
+    BerError, Class, Err, FromDer, Header, Outside, Place, Refused, Sequence, Tag, Tries, Window,
+};
 use x509_fields::{RelativeDistinguishedName, TryClone, X509Error};
 use x509_general_names::GeneralName;
 
@@ -55,13 +57,13 @@ impl<'a> FromDer<'a, X509Error> for DistributionPointName<'a> {
     ghost takes_memory = { true };
 
     #[tactic(auto, unfolding(crate::specs::DistributionPointName::distribution_point_name, x509_der::specs::Leaves::explicit, x509_der::specs::Primitives::contents_at), using(x509_der::proofs::Marking::marks_of_readers))]
-    fn read_at(
+    fn read_at<L: Outside>(
         alloc: Global,
         tries: &mut Tries,
-        place: &Place<'a>,
-    ) -> Result<(Self, bool), Err<X509Error>> {
+        place: &Place<'a, L>,
+    ) -> Result<(Self, bool), Refused<X509Error, L>> {
         let contents = place.explicit(0).map_err(|e| e.convert())?;
-        let (tail, name, plain) = name_in(alloc, tries, contents)?;
+        let (tail, name, plain) = name_in(alloc, tries, &contents)?;
         Ok((name, plain & tail.is_empty()))
     }
 
@@ -84,41 +86,44 @@ impl TryClone for DistributionPointName<'_> {
 
 // The name at the front of these bytes, what stands behind it, and its mark.
 #[tactic(auto, unfolding(crate::specs::DistributionPointName::point_name, crate::specs::DistributionPointName::full_name, crate::specs::DistributionPointName::name_relative), using(x509_der::proofs::Marking::marks_of_readers))]
-fn name_in<'a>(
+fn name_in<'a, L: Outside>(
     alloc: Global,
     tries: &mut Tries,
-    contents: &'a [u8],
-) -> Result<(&'a [u8], DistributionPointName<'a>, bool), Err<X509Error>>
-    ensures reads { Answers is_x509_memory true (λ x. (x.0.now, point_name_of x.1)) result (point_name.read contents.now) }
-    ensures marks { IfOk result (λ x. x.2 ≡ point_name.marks contents.now) }
+    contents: &Window<'a, L>,
+) -> Result<(&'a [u8], DistributionPointName<'a>, bool), Refused<X509Error, L>>
+    ensures reads { AnswersAt is_x509_memory true (λ x. (x.0.now, point_name_of x.1)) point_name L.adds (bytes_in contents.now) (outside_in contents.now) result }
+    ensures marks { IfOk result (λ x. x.2 ≡ point_name.marks (bytes_in contents.now)) }
     ensures grows { tries.old ≤ tries.new }
-    ensures count { tries.new ≤ tries.old + 8 * length contents.now }
+    ensures count { tries.new ≤ tries.old + 8 * length (bytes_in contents.now) }
     ensures least { IfOk result (λ x. AddsAtLeast (point_name_heads (point_name_of x.1)) tries.old tries.new) }
 {
-    let place = Place::look(tries, contents);
+    let place = Place::inside(tries, contents);
     let (inner, header) = choice_at(&place)?;
     let closes = closes(header, inner);
     if header.tag.0 == 0 {
-        let (rest, names, plain) = some_names_in(alloc, tries, inner)?;
+        let (rest, names, plain) = some_names_in(alloc, tries, &place.left(inner))?;
         Ok((rest, DistributionPointName::FullName(names), closes & plain))
     } else {
-        let (rest, name, plain) = RelativeDistinguishedName::read_marked(alloc, tries, inner)?;
+        let relative = Place::inside(tries, &place.left(inner));
+        let (name, plain) = RelativeDistinguishedName::read_at(alloc, tries, &relative)?;
         let name = DistributionPointName::NameRelativeToCRLIssuer(name);
-        Ok((rest, name, closes & plain))
+        Ok((relative.rest(), name, closes & plain))
     }
 }
 
 // What stands behind a header of number 0 or 1, whatever its class and its length.
 #[inline(always)]
 #[tactic(auto, unfolding(crate::specs::DistributionPointName::choice_header, x509_der::specs::Leaves::any_header))]
-fn choice_at<'a>(place: &Place<'a>) -> Result<(&'a [u8], Header), Err<X509Error>>
-    ensures reads { Gives (λ x. (x.0.now, x.1)) result (choice_header.read (at place.now)) }
+fn choice_at<'a, L: Outside>(
+    place: &Place<'a, L>,
+) -> Result<(&'a [u8], Header), Refused<X509Error, L>>
+    ensures reads { GivesAt (λ x. (x.0.now, x.1)) choice_header L.adds (at place.now) (outside_of place.now) result }
     ensures marks { choice_header.marks (at place.now) ≡ true }
     ensures sizes { IfOk result (λ x. length x.0.now + 2 ≤ length (at place.now)) }
 {
     match place.header().map_err(|e| e.convert())? {
         (inner, header) if is_choice(header) => Ok((inner, header)),
-        _ => Err(Err::Error(X509Error::Der(BerError::InvalidTag))),
+        _ => Err(place.refuse(Err::Error(X509Error::Der(BerError::InvalidTag)))),
     }
 }
 

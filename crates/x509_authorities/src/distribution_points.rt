@@ -9,7 +9,9 @@ use crate::distribution_point_name::DistributionPointName;
 use crate::implicit_names::SomeNames;
 use crate::reason_flags::{ReasonFlags, soft_reasons};
 use std::alloc::Global;
-use x509_der::{Err, ErrorKind, Fields, FromDer, Place, Sequence, Tries, read_run};
+use x509_der::{
+    ErrorKind, Fields, FromDer, Outside, Place, Refused, Sequence, Tries, ok, read_run,
+};
 use x509_fields::{TryClone, X509Error, sequence_at};
 use x509_general_names::GeneralName;
 use x509_parts::list_error;
@@ -57,16 +59,16 @@ impl<'a> FromDer<'a, X509Error> for CRLDistributionPoint<'a> {
     ghost takes_memory = { true };
 
     #[tactic(auto, unfolding(crate::specs::DistributionPoints::crl_distribution_point), using(x509_der::proofs::Marking::marks_of_readers))]
-    fn read_at(
+    fn read_at<L: Outside>(
         alloc: Global,
         tries: &mut Tries,
-        place: &Place<'a>,
-    ) -> Result<(Self, bool), Err<X509Error>> {
+        place: &Place<'a, L>,
+    ) -> Result<(Self, bool), Refused<X509Error, L>> {
         let contents = sequence_at(place)?;
-        let fields = Fields::of(tries, contents);
+        let fields = Fields::of(tries, &contents);
         let (fields, distribution_point) = fields.soft(alloc, tries)?;
         let (fields, reasons) = soft_reasons(&fields, tries, 1);
-        let (fields, crl_issuer) = fields.soft_by(&SomeNames { number: 2 }, alloc, tries)?;
+        let (fields, crl_issuer) = ok!(fields.soft_by(&SomeNames { number: 2 }, alloc, tries));
         let point = CRLDistributionPoint {
             distribution_point,
             reasons,
@@ -131,15 +133,15 @@ impl<'a> FromDer<'a, X509Error> for CRLDistributionPoints<'a> {
     ghost takes_memory = { true };
 
     #[tactic(auto, unfolding(crate::specs::DistributionPoints::crl_distribution_points), using(x509_der::proofs::Marking::marks_of_readers))]
-    fn read_at(
+    fn read_at<L: Outside>(
         alloc: Global,
         tries: &mut Tries,
-        place: &Place<'a>,
-    ) -> Result<(Self, bool), Err<X509Error>> {
+        place: &Place<'a, L>,
+    ) -> Result<(Self, bool), Refused<X509Error, L>> {
         let contents = sequence_at(place)?;
-        let (rest, points, plain) = read_run(alloc, tries, contents)?;
+        let (rest, points, plain) = place.judge(read_run(alloc, tries, contents.bytes()))?;
         if !rest.is_empty() {
-            return Err(list_error(ErrorKind::Eof));
+            return Err(contents.refuse_at(rest, list_error(ErrorKind::Eof)));
         }
         Ok((CRLDistributionPoints { points }, plain))
     }

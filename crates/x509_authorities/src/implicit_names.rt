@@ -2,15 +2,16 @@
 
 ghost use Rattle.std.specs.Prelude.{List, true, ⊤};
 ghost use Rattle.x509_der.specs.Primitives.{is_context, is_implicit};
-ghost use Rattle.x509_der.specs.Promises.{ReadsRun};
 ghost use Rattle.x509_der.specs.Reading.{strict};
 ghost use Rattle.x509_fields.specs.Errors.{is_x509_memory};
 ghost use Rattle.x509_general_names.specs.AlternativeNames.{general_names_heads};
 ghost use Rattle.x509_authorities.specs.ImplicitNames.{names_of, implicit_names, some_names, implicit_some_names};
 ghost use Rattle.x509_general_names.specs.GeneralName.{GeneralNameValue, general_name_heads};
+ghost use Rattle.x509_der.specs.Place.{bytes_in, outside_in};
+ghost use Rattle.x509_der.specs.Promises.{ReadsList};
 
 use std::alloc::Global;
-use x509_der::{Err, ErrorKind, Place, ReadAt, Sequence, Tries, read_run};
+use x509_der::{ErrorKind, Outside, Place, ReadAt, Refused, Sequence, Tries, Window, read_run};
 use x509_fields::X509Error;
 use x509_general_names::GeneralName;
 use x509_parts::list_error;
@@ -39,14 +40,14 @@ impl<'a> ReadAt<'a, X509Error, Sequence<GeneralName<'a>>> for ImplicitNames {
     ghost tight = { λ _ _ _. ⊤ };
 
     #[tactic(auto, unfolding(crate::specs::ImplicitNames::implicit_names), using(x509_der::proofs::Marking::marks_of_readers))]
-    fn read_at(
+    fn read_at<L: Outside>(
         &self,
         alloc: Global,
         tries: &mut Tries,
-        place: &Place<'a>,
-    ) -> Result<(Sequence<GeneralName<'a>>, bool), Err<X509Error>> {
+        place: &Place<'a, L>,
+    ) -> Result<(Sequence<GeneralName<'a>>, bool), Refused<X509Error, L>> {
         let contents = place.implicit(self.number).map_err(|e| e.convert())?;
-        let (tail, names, plain) = read_run(alloc, tries, contents)?;
+        let (tail, names, plain) = place.judge(read_run(alloc, tries, contents.bytes()))?;
         Ok((names, plain & tail.is_empty()))
     }
 }
@@ -75,30 +76,33 @@ impl<'a> ReadAt<'a, X509Error, Sequence<GeneralName<'a>>> for SomeNames {
     ghost tight = { λ _ _ _. ⊤ };
 
     #[tactic(auto, unfolding(crate::specs::ImplicitNames::implicit_some_names), using(x509_der::proofs::Marking::marks_of_readers))]
-    fn read_at(
+    fn read_at<L: Outside>(
         &self,
         alloc: Global,
         tries: &mut Tries,
-        place: &Place<'a>,
-    ) -> Result<(Sequence<GeneralName<'a>>, bool), Err<X509Error>> {
+        place: &Place<'a, L>,
+    ) -> Result<(Sequence<GeneralName<'a>>, bool), Refused<X509Error, L>> {
         let contents = place.implicit(self.number).map_err(|e| e.convert())?;
-        let (tail, names, plain) = some_names_in(alloc, tries, contents)?;
+        let (tail, names, plain) = some_names_in(alloc, tries, &contents)?;
         Ok((names, plain & tail.is_empty()))
     }
 }
 
 /// The names at the front of these bytes, at least one, what stands behind them, and their mark.
 #[tactic(auto, unfolding(crate::specs::ImplicitNames::some_names), using(x509_der::proofs::Marking::marks_of_readers))]
-pub(crate) fn some_names_in<'a>(
+pub(crate) fn some_names_in<'a, L: Outside>(
     alloc: Global,
     tries: &mut Tries,
-    i: &'a [u8],
-) -> Result<(&'a [u8], Sequence<GeneralName<'a>>, bool), Err<X509Error>>
-    ensures { ReadsRun is_x509_memory strict (λ h. is_context h.class) general_name_heads (λ x. (x.0.now, names_of x.1)) (λ x. x.2) some_names i.now tries.old tries.new result }
+    contents: &Window<'a, L>,
+) -> Result<(&'a [u8], Sequence<GeneralName<'a>>, bool), Refused<X509Error, L>>
+    ensures { ReadsList is_x509_memory strict (λ h. is_context h.class) general_name_heads (λ x. (x.0.now, names_of x.1)) (λ x. x.2) some_names L.adds (bytes_in contents.now) (outside_in contents.now) tries.old tries.new result }
 {
-    let (rest, names, plain) = read_run(alloc, tries, i)?;
+    let (rest, names, plain) = match read_run(alloc, tries, contents.bytes()) {
+        Ok(read) => read,
+        Err(why) => return Err(contents.refuse_at(contents.bytes(), why)),
+    };
     if names.is_empty() {
-        return Err(list_error(ErrorKind::Many1));
+        return Err(contents.refuse_at(rest, list_error(ErrorKind::Many1)));
     }
     Ok((rest, names, plain))
 }

@@ -1,7 +1,7 @@
 //! Where more about an issuer or a subject is found.
 
 ghost use Rattle.std.specs.Prelude.{◌≡◌, List, map, true, IfOk, IfErr};
-ghost use Rattle.x509_der.specs.Place.{at};
+ghost use Rattle.x509_der.specs.Place.{at, outside_of};
 ghost use Rattle.x509_der.specs.Primitives.{is_constructed};
 ghost use Rattle.x509_der.specs.Promises.{ReadsAt};
 ghost use Rattle.x509_der.specs.Reading.{strict};
@@ -15,7 +15,9 @@ use crate::access_iter::AccessIter;
 use std::alloc::Global;
 use std::collections::HashMap;
 use std::hash::BuildHasher;
-use x509_der::{Err, ErrorKind, Fields, FromDer, Oid, Place, Sequence, Tries, read_run};
+use x509_der::{
+    ErrorKind, Fields, FromDer, Oid, Outside, Place, Refused, Sequence, Tries, read_run,
+};
 use x509_fields::{TryClone, X509Error, sequence_at};
 use x509_general_names::GeneralName;
 use x509_parts::{add_to_group, list_error};
@@ -69,13 +71,13 @@ impl<'a> FromDer<'a, X509Error> for AccessDescription<'a> {
     ghost takes_memory = { true };
 
     #[tactic(auto, unfolding(crate::specs::InformationAccess::access_description), using(x509_der::proofs::Marking::marks_of_readers))]
-    fn read_at(
+    fn read_at<L: Outside>(
         alloc: Global,
         tries: &mut Tries,
-        place: &Place<'a>,
-    ) -> Result<(Self, bool), Err<X509Error>> {
+        place: &Place<'a, L>,
+    ) -> Result<(Self, bool), Refused<X509Error, L>> {
         let contents = sequence_at(place)?;
-        let fields = Fields::of(tries, contents);
+        let fields = Fields::of(tries, &contents);
         let (fields, access_method) = fields.oid(tries).map_err(|e| e.convert())?;
         let (access_location, plain) = fields.last(alloc, tries)?;
         let description = AccessDescription {
@@ -170,11 +172,11 @@ impl<'a> FromDer<'a, X509Error> for AuthorityInfoAccess<'a> {
 
     ghost takes_memory = { true };
 
-    fn read_at(
+    fn read_at<L: Outside>(
         alloc: Global,
         tries: &mut Tries,
-        place: &Place<'a>,
-    ) -> Result<(Self, bool), Err<X509Error>> {
+        place: &Place<'a, L>,
+    ) -> Result<(Self, bool), Refused<X509Error, L>> {
         let (accessdescs, plain) = accesses_at(alloc, tries, place)?;
         Ok((AuthorityInfoAccess { accessdescs }, plain))
     }
@@ -261,11 +263,11 @@ impl<'a> FromDer<'a, X509Error> for SubjectInfoAccess<'a> {
 
     ghost takes_memory = { true };
 
-    fn read_at(
+    fn read_at<L: Outside>(
         alloc: Global,
         tries: &mut Tries,
-        place: &Place<'a>,
-    ) -> Result<(Self, bool), Err<X509Error>> {
+        place: &Place<'a, L>,
+    ) -> Result<(Self, bool), Refused<X509Error, L>> {
         let (accessdescs, plain) = accesses_at(alloc, tries, place)?;
         Ok((SubjectInfoAccess { accessdescs }, plain))
     }
@@ -282,17 +284,17 @@ impl TryClone for SubjectInfoAccess<'_> {
 
 // Descriptions in a SEQUENCE that they fill, and their mark.
 #[tactic(auto, unfolding(crate::specs::InformationAccess::information_access), using(x509_der::proofs::Marking::marks_of_readers))]
-fn accesses_at<'a>(
+fn accesses_at<'a, L: Outside>(
     alloc: Global,
     tries: &mut Tries,
-    place: &Place<'a>,
-) -> Result<(Sequence<AccessDescription<'a>>, bool), Err<X509Error>>
-    ensures { ReadsAt is_x509_memory true strict (is_constructed 16) information_access_heads (λ x. map access_of x) information_access (at place.now) tries.old tries.new result }
+    place: &Place<'a, L>,
+) -> Result<(Sequence<AccessDescription<'a>>, bool), Refused<X509Error, L>>
+    ensures { ReadsAt is_x509_memory true strict (is_constructed 16) information_access_heads (λ x. map access_of x) information_access L.adds (at place.now) (outside_of place.now) tries.old tries.new result }
 {
     let contents = sequence_at(place)?;
-    let (rest, accesses, plain) = read_run(alloc, tries, contents)?;
+    let (rest, accesses, plain) = place.judge(read_run(alloc, tries, contents.bytes()))?;
     if !rest.is_empty() {
-        return Err(list_error(ErrorKind::Eof));
+        return Err(contents.refuse_at(rest, list_error(ErrorKind::Eof)));
     }
     Ok((accesses, plain))
 }

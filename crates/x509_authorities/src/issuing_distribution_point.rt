@@ -9,7 +9,7 @@ use crate::distribution_point_name::DistributionPointName;
 use crate::implicit_bool::soft_bool;
 use crate::reason_flags::{ReasonFlags, soft_reasons};
 use std::alloc::Global;
-use x509_der::{Err, Fields, FromDer, Place, Tries};
+use x509_der::{Fields, FromDer, Outside, Place, Refused, Tries};
 use x509_fields::{TryClone, X509Error, sequence_at};
 
 /// Where a list of revoked certificates is found, and what it covers (RFC 5280, section 5.2.5).
@@ -64,13 +64,13 @@ impl<'a> FromDer<'a, X509Error> for IssuingDistributionPoint<'a> {
     ghost takes_memory = { true };
 
     #[tactic(auto, unfolding(crate::specs::IssuingDistributionPoint::issuing_distribution_point), using(x509_der::proofs::Marking::marks_of_readers))]
-    fn read_at(
+    fn read_at<L: Outside>(
         alloc: Global,
         tries: &mut Tries,
-        place: &Place<'a>,
-    ) -> Result<(Self, bool), Err<X509Error>> {
+        place: &Place<'a, L>,
+    ) -> Result<(Self, bool), Refused<X509Error, L>> {
         let contents = sequence_at(place)?;
-        let fields = Fields::of(tries, contents);
+        let fields = Fields::of(tries, &contents);
         let (fields, distribution_point) = fields.soft(alloc, tries)?;
         let (fields, user_certs) = soft_bool(&fields, tries, 1);
         let (fields, ca_certs) = soft_bool(&fields, tries, 2);

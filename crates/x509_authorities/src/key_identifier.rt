@@ -9,7 +9,7 @@ ghost use Rattle.x509_authorities.specs.KeyIdentifier.{key_identifier_of, key_id
 
 use std::alloc::Global;
 use std::fmt;
-use x509_der::{Err, FromDer, HexPairs, Place, Tries};
+use x509_der::{FromDer, HexPairs, Outside, Place, Refused, Tries};
 use x509_fields::X509Error;
 
 /// The identifier of a key (RFC 5280, section 4.2.1.2).
@@ -46,11 +46,11 @@ impl<'a> FromDer<'a, X509Error> for KeyIdentifier<'a> {
     ghost takes_memory = { false };
 
     #[tactic(auto, unfolding(crate::specs::KeyIdentifier::key_identifier, x509_der::specs::Leaves::octets, x509_der::specs::Primitives::contents_at), using(x509_der::proofs::Marking::marks_of_readers))]
-    fn read_at(
+    fn read_at<L: Outside>(
         _alloc: Global,
         _tries: &mut Tries,
-        place: &Place<'a>,
-    ) -> Result<(Self, bool), Err<X509Error>> {
+        place: &Place<'a, L>,
+    ) -> Result<(Self, bool), Refused<X509Error, L>> {
         let octets = place.octets().map_err(|e| e.convert())?;
         Ok((KeyIdentifier(octets), true))
     }

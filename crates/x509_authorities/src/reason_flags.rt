@@ -1,8 +1,8 @@
 //! Why certificates are revoked.
 
 ghost use Rattle.std.specs.Prelude.{◌≡◌, ◌<◌, ℕ, Some, IfOk, IfSome, true, false};
-ghost use Rattle.x509_der.specs.Fields.{next_of, plain_in, StepsSoftLeaf};
-ghost use Rattle.x509_der.specs.Place.{at};
+ghost use Rattle.x509_der.specs.Fields.{next_of, plain_in, StepsSoftLeaf, outer_of};
+ghost use Rattle.x509_der.specs.Place.{at, outside_of};
 ghost use Rattle.x509_der.specs.Primitives.{is_explicit, is_primitive};
 ghost use Rattle.x509_der.specs.Promises.{IsForeign, ReadsLeaf, option_view};
 ghost use Rattle.x509_der.specs.Reading.{strict};
@@ -13,7 +13,7 @@ ghost use Rattle.x509_authorities.specs.ReasonFlags.{reason_flags_of, reason_fla
 
 use std::alloc::Global;
 use std::fmt;
-use x509_der::{Err, Fields, FromDer, Place, Tries};
+use x509_der::{Fields, FromDer, Outside, Place, Refused, Tries};
 use x509_fields::X509Error;
 use x509_parts::{BitNames, FlagNames, flags_of, is_set};
 
@@ -149,11 +149,11 @@ impl<'a> FromDer<'a, X509Error> for ReasonFlags {
     ghost takes_memory = { false };
 
     #[tactic(auto, unfolding(crate::specs::ReasonFlags::reason_flags, x509_der::specs::Leaves::bits, x509_der::specs::Primitives::contents_at), using(x509_der::proofs::Marking::marks_of_readers))]
-    fn read_at(
+    fn read_at<L: Outside>(
         _alloc: Global,
         _tries: &mut Tries,
-        place: &Place<'a>,
-    ) -> Result<(Self, bool), Err<X509Error>> {
+        place: &Place<'a, L>,
+    ) -> Result<(Self, bool), Refused<X509Error, L>> {
         let bits = place.bits().map_err(|e| e.convert())?;
         let flags = flags_of(&bits);
         Ok((ReasonFlags { flags }, true))
@@ -165,26 +165,29 @@ impl<'a> FromDer<'a, X509Error> for ReasonFlags {
 /// Reasons under this context tag that may be absent.
 #[inline(always)]
 #[tactic(auto, using(x509_der::proofs::Steps::marks_of_fields))]
-pub(crate) fn soft_reasons<'a>(
-    fields: &Fields<'a>,
+pub(crate) fn soft_reasons<'a, L: Outside>(
+    fields: &Fields<'a, L>,
     tries: &mut Tries,
     number: u32,
-) -> (Fields<'a>, Option<ReasonFlags>)
-    ensures reads { StepsSoftLeaf (λ x. (next_of x.0, option_view reason_flags_of x.1)) (λ x. plain_in x.0) (implicit_reasons number) (plain_in fields.now) (next_of fields.now) tries.old tries.new result }
+) -> (Fields<'a, L>, Option<ReasonFlags>)
+    ensures reads { StepsSoftLeaf (λ x. (next_of x.0, option_view reason_flags_of x.1)) (λ x. outer_of x.0) (λ x. plain_in x.0) (implicit_reasons number) (plain_in fields.now) (next_of fields.now) (outer_of fields.now) tries.old tries.new result }
     // No element of another tag is read.
     ensures foreign { IfSome result.1 (λ _. 0 < number → IsForeign strict (is_explicit 0) (next_of fields.now)) }
 {
     match reasons_at(&fields.place, number) {
         Ok(reasons) => (fields.behind(tries, true), Some(reasons)),
-        Err(_) => (*fields, None),
+        Err(_) => (fields.same(), None),
     }
 }
 
 /// Reasons under this context tag.
 #[inline(always)]
 #[tactic(auto, unfolding(crate::specs::ReasonFlags::implicit_reasons), using(x509_der::proofs::Marking::marks_of_readers))]
-fn reasons_at(place: &Place<'_>, number: u32) -> Result<ReasonFlags, Err<X509Error>>
-    ensures reads { ReadsLeaf reason_flags_of (implicit_reasons number) (at place.now) result }
+fn reasons_at<L: Outside>(
+    place: &Place<'_, L>,
+    number: u32,
+) -> Result<ReasonFlags, Refused<X509Error, L>>
+    ensures reads { ReadsLeaf reason_flags_of (implicit_reasons number) L.adds (at place.now) (outside_of place.now) result }
     ensures marks { (implicit_reasons number).marks (at place.now) ≡ true }
     // No element of another tag is read.
     ensures foreign { IfOk result (λ _. 0 < number → IsForeign strict (is_explicit 0) (at place.now)) }

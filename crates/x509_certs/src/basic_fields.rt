@@ -1,16 +1,17 @@
 //! The fields that every certificate has, whatever its version.
 
 ghost use Rattle.std.specs.Prelude.{◌≡◌, ◌≤◌, ◌+◌, ◌*◌, IfOk, IfErr, min, length, true};
-ghost use Rattle.x509_der.specs.Fields.{next_of, plain_in};
-ghost use Rattle.x509_der.specs.Promises.{Answers};
+ghost use Rattle.x509_der.specs.Fields.{next_of, plain_in, outer_of};
 ghost use Rattle.x509_der.specs.Reading.{AddsAtLeast};
 ghost use Rattle.x509_fields.specs.Errors.{is_x509_memory};
 ghost use Rattle.x509_certs.specs.BasicFields.{basic_fields_of, basic_fields_heads, basic_fields};
+ghost use Rattle.x509_der.specs.Place.{bytes_in, outside_in};
+ghost use Rattle.x509_der.specs.Promises.{AnswersAt};
 
 use crate::explicit_version::read_version;
 use crate::validity::Validity;
 use std::alloc::Global;
-use x509_der::{Err, Fields, Tries};
+use x509_der::{Err, Fields, Outside, Refused, Tries, Window};
 use x509_fields::{AlgorithmIdentifier, X509Error, X509Name, X509Version, sequence_at};
 use x509_keys::SubjectPublicKeyInfo;
 use x509_signed::read_serial;
@@ -30,26 +31,27 @@ pub(crate) struct BasicFields<'a> {
 /// Reads these fields, in order, at the front of the contents, and gives the cursor behind them. The parts of the validity and
 /// of the key info are read here: their own readers are too large to be inlined, and the two calls take a twelfth of the time.
 #[tactic(auto, unfolding(crate::specs::BasicFields::basic_fields, crate::specs::Validity::validity, x509_keys::specs::KeyInfo::key_info), using(x509_der::proofs::Marking::marks_of_readers))]
-pub(crate) fn read_basic_fields<'a>(
+pub(crate) fn read_basic_fields<'a, L: Outside>(
     alloc: Global,
     tries: &mut Tries,
-    contents: &'a [u8],
-) -> Result<(Fields<'a>, BasicFields<'a>), Err<X509Error>>
-    ensures reads { Answers is_x509_memory true (λ x. (next_of x.0, basic_fields_of x.1)) result (basic_fields.read contents.now) }
-    ensures marks { IfOk result (λ x. plain_in x.0 ≡ basic_fields.marks contents.now) }
+    contents: &Window<'a, L>,
+) -> Result<(Fields<'a, L>, BasicFields<'a>), Refused<X509Error, L>>
+    ensures reads { AnswersAt is_x509_memory true (λ x. (next_of x.0, basic_fields_of x.1)) basic_fields L.adds (bytes_in contents.now) (outside_in contents.now) result }
+    ensures outer { IfOk result (λ x. outer_of x.0 ≡ outside_in contents.now) }
+    ensures marks { IfOk result (λ x. plain_in x.0 ≡ basic_fields.marks (bytes_in contents.now)) }
     ensures grows { tries.old ≤ tries.new }
-    ensures count { IfErr result (λ _. tries.new ≤ tries.old + 8 * length contents.now) }
-    ensures sizes { IfOk result (λ x. tries.new + 40 + 8 * length (next_of x.0) ≤ tries.old + 8 * length contents.now) }
+    ensures count { IfErr result (λ _. tries.new ≤ tries.old + 8 * length (bytes_in contents.now)) }
+    ensures sizes { IfOk result (λ x. tries.new + 40 + 8 * length (next_of x.0) ≤ tries.old + 8 * length (bytes_in contents.now)) }
     ensures least { IfOk result (λ x. AddsAtLeast (basic_fields_heads (basic_fields_of x.1) + min 1 (length (next_of x.0))) tries.old tries.new) }
 {
-    let fields = Fields::of(tries, contents);
+    let fields = Fields::of(tries, &contents);
     let (fields, version) = read_version(tries, &fields)?;
     let (fields, raw_serial) = read_serial(tries, &fields)?;
     let (fields, signature) = fields.field(alloc, tries)?;
     let (fields, issuer) = fields.field(alloc, tries)?;
     // Validity
     let times = sequence_at(&fields.place)?;
-    let inner = Fields::of(tries, times);
+    let inner = Fields::of(tries, &times);
     let (inner, not_before) = match inner.field(alloc, tries) {
         Ok((inner, not_before)) => (inner, not_before),
         Err(e) => return Err(e),
@@ -66,14 +68,14 @@ pub(crate) fn read_basic_fields<'a>(
     // Name and SubjectPublicKeyInfo
     let (fields, subject) = fields.field(alloc, tries)?;
     let parts = sequence_at(&fields.place)?;
-    let inner = Fields::of(tries, parts);
+    let inner = Fields::of(tries, &parts);
     let (inner, algorithm) = match inner.field(alloc, tries) {
         Ok((inner, algorithm)) => (inner, algorithm),
         Err(e) => return Err(e),
     };
     let subject_public_key = match inner.place.bits() {
         Ok(bits) => bits,
-        Err(_) => return Err(Err::Error(X509Error::InvalidSPKI)),
+        Err(e) => return Err(e.named(Err::Error(X509Error::InvalidSPKI))),
     };
     let bytes = fields.place.bytes();
     let behind = inner.place.rest().len() + fields.place.rest().len();

@@ -12,7 +12,7 @@ use crate::certificate_parser::X509CertificateParser;
 use crate::tbs_certificate::TbsCertificate;
 use crate::validity::Validity;
 use std::alloc::Global;
-use x509_der::{BitString, Err, FromDer, Place, Tries};
+use x509_der::{BitString, FromDer, Outside, Place, Refused, Tries};
 use x509_extensions::{ExtensionIter, X509Extension};
 use x509_fields::{AlgorithmIdentifier, TryClone, X509Error, X509Name, X509Version};
 use x509_keys::SubjectPublicKeyInfo;
@@ -139,11 +139,11 @@ impl<'a> FromDer<'a, X509Error> for X509Certificate<'a> {
 
     ghost takes_memory = { true };
 
-    fn read_at(
+    fn read_at<L: Outside>(
         alloc: Global,
         tries: &mut Tries,
-        place: &Place<'a>,
-    ) -> Result<(Self, bool), Err<X509Error>> {
+        place: &Place<'a, L>,
+    ) -> Result<(Self, bool), Refused<X509Error, L>> {
         X509CertificateParser::new().read_at(alloc, tries, place)
     }
 

@@ -1,14 +1,14 @@
 //! Reading whole certificates.
 
-ghost use Rattle.std.specs.Prelude.{◌≡◌, ◌<◌, ℕ, Bool, true, false, IfOk, IfErr};
-ghost use Rattle.x509_der.specs.Promises.{Answers, ReadsExactly, is_excused};
+ghost use Rattle.std.specs.Prelude.{◌≡◌, ℕ, Bool, true, false, IfOk, IfErr};
+ghost use Rattle.x509_der.specs.Promises.{Answers, ReadsExactly, ReadsWhere, is_excused};
 ghost use Rattle.x509_fields.specs.Errors.{is_x509_memory};
 ghost use Rattle.x509_certs.specs.Certificate.{certificate_of, CertificateStands, certificate, certificate_by};
 
 use crate::certificate::X509Certificate;
 use crate::certificate_parser::X509CertificateParser;
 use std::alloc::Global;
-use x509_der::{Err, FromDer, Tries};
+use x509_der::{Err, FromDer, Located, Tries};
 use x509_fields::{X509Error, X509Result};
 
 /// Reads the certificate at the front of the bytes, with what the values of its extensions say, and gives what stands
@@ -23,6 +23,22 @@ pub fn parse_x509_certificate<'a>(alloc: Global, i: &'a [u8]) -> X509Result<'a, 
     ensures refused_at_any_depth { IfErr result (λ e. is_excused is_x509_memory true e ≡ false → (deep : Bool) → (left : ℕ) × (certificate deep).Refuses i.now e left) }
 {
     X509CertificateParser::new().parse(alloc, i)
+}
+
+/// The same as [`parse_x509_certificate`]; a refusal has the offset, in octets from the front, of the place at which the grammar
+/// refuses the bytes.
+///
+/// # Errors
+///
+/// Those of [`parse_x509_certificate`], with their offset; want of memory has none.
+pub fn parse_x509_certificate_located<'a>(
+    alloc: Global,
+    i: &'a [u8],
+) -> Result<(&'a [u8], X509Certificate<'a>), Located<X509Error>>
+    ensures exact { ReadsWhere is_x509_memory true (λ x. (x.0.now, certificate_of x.1)) (certificate true) i.now result }
+    ensures stands { IfOk result (λ x. CertificateStands true i.now (certificate_of x.1) x.0.now) }
+{
+    X509CertificateParser::new().parse_located(alloc, i)
 }
 
 /// Reads the certificate at the front of the bytes, with what the values of its extensions say, and gives what stands

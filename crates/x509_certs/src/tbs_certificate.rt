@@ -12,7 +12,7 @@ use crate::tbs_parser::TbsCertificateParser;
 use crate::unique_identifier::UniqueIdentifier;
 use crate::validity::Validity;
 use std::alloc::Global;
-use x509_der::{Err, FromDer, Place, Sequence, Tries, UnsignedBytes};
+use x509_der::{FromDer, Outside, Place, Refused, Sequence, Tries, UnsignedBytes};
 use x509_extensions::{ExtensionIter, X509Extension};
 use x509_fields::{AlgorithmIdentifier, TryClone, X509Error, X509Name, X509Version, format_serial};
 use x509_keys::SubjectPublicKeyInfo;
@@ -153,11 +153,11 @@ impl<'a> FromDer<'a, X509Error> for TbsCertificate<'a> {
 
     ghost takes_memory = { true };
 
-    fn read_at(
+    fn read_at<L: Outside>(
         alloc: Global,
         tries: &mut Tries,
-        place: &Place<'a>,
-    ) -> Result<(Self, bool), Err<X509Error>> {
+        place: &Place<'a, L>,
+    ) -> Result<(Self, bool), Refused<X509Error, L>> {
         TbsCertificateParser::new().read_at(alloc, tries, place)
     }
 

@@ -1,10 +1,11 @@
 //! Readers of the signed part.
 
-ghost use Rattle.std.specs.Prelude.{◌≡◌, ◌<◌, ◌≤◌, ◌+◌, ◌-◌, ◌*◌, ℕ, Bool, true, false, IfOk, IfErr, length};
+ghost use Rattle.std.specs.Prelude.{◌≡◌, ◌≤◌, ◌+◌, ◌*◌, ℕ, Bool, true, false, IfOk, IfErr, length};
 ghost use Rattle.x509_der.specs.Looks.{behind};
-ghost use Rattle.x509_der.specs.Place.{at};
+ghost use Rattle.x509_der.specs.Plan.{got};
+ghost use Rattle.x509_der.specs.Place.{at, outside_of};
 ghost use Rattle.x509_der.specs.Primitives.{is_constructed};
-ghost use Rattle.x509_der.specs.Promises.{Answers, TriesBounded, ReadsAt, ReadsExactly, is_excused};
+ghost use Rattle.x509_der.specs.Promises.{Answers, TriesBounded, ReadsAt, ReadsExactly, is_excused, AnswersAt, ReadsWhere};
 ghost use Rattle.x509_der.specs.Reading.{strict, loose};
 ghost use Rattle.x509_fields.specs.Errors.{is_x509_memory};
 ghost use Rattle.x509_extensions.specs.Extension.{value_bytes};
@@ -14,7 +15,7 @@ use crate::basic_fields::read_basic_fields;
 use crate::tbs_certificate::TbsCertificate;
 use crate::unique_identifier::{read_issuer_uid, read_subject_uid};
 use std::alloc::Global;
-use x509_der::{Err, Place, Tries, UnsignedBytes};
+use x509_der::{Err, Located, Outside, Place, Refused, Tries, UnsignedBytes, Window};
 use x509_extensions::X509ExtensionParser;
 use x509_fields::{X509Error, X509Result, X509Version, sequence_at};
 
@@ -90,6 +91,29 @@ impl TbsCertificateParser {
         self.read(alloc, &mut Tries::new(), i)
     }
 
+    /// Reads the signed part at the front of the bytes as [`TbsCertificateParser::parse`] does; a refusal has the offset, in
+    /// octets from the front, of the place at which the grammar refuses the bytes. What a strict reader refuses as
+    /// `Error(Generic)` it refuses at the front.
+    ///
+    /// # Errors
+    ///
+    /// As [`TbsCertificateParser::parse`], with their offset; want of memory has none.
+    pub fn parse_located<'a>(
+        &self,
+        alloc: Global,
+        i: &'a [u8],
+    ) -> Result<(&'a [u8], TbsCertificate<'a>), Located<X509Error>>
+        ensures exact { ReadsWhere is_x509_memory true (λ x. (x.0.now, tbs_of x.1)) (tbs_by (looks_at_values self.now) (takes_plain_alone self.now)) i.now result }
+        ensures stands { IfOk result (λ x. SignedPartStands (looks_at_values self.now) i.now (tbs_of x.1) x.0.now) }
+    {
+        let mut tries = Tries::new();
+        let place = Place::inside(&mut tries, &Window::counted(i));
+        match self.read_by_settings_at(alloc, &mut tries, &place) {
+            Ok(tbs) => Ok((place.rest(), tbs)),
+            Err(e) => Err(e.located(i.len())),
+        }
+    }
+
     /// The same, and counts the headers that it tries: at most eight for each byte; a shallow reader, for each byte
     /// outside the values of extensions.
     pub fn read<'a>(
@@ -131,31 +155,57 @@ impl TbsCertificateParser {
         let place = Place::look(tries, i);
         match self.read_at(alloc, tries, &place) {
             Ok((tbs, plain)) => Ok((place.rest(), tbs, plain)),
+            Err(e) => Err(e.why),
+        }
+    }
+
+    // The signed part at a place that was looked at, where the settings take it.
+    fn read_by_settings_at<'a, L: Outside>(
+        &self,
+        alloc: Global,
+        tries: &mut Tries,
+        place: &Place<'a, L>,
+    ) -> Result<TbsCertificate<'a>, Refused<X509Error, L>>
+        ensures reads { AnswersAt is_x509_memory true (λ x. (behind (at place.now), tbs_of x)) (tbs_by (looks_at_values self.now) (takes_plain_alone self.now)) L.adds (at place.now) (outside_of place.now) result }
+        // What is taken is a sentence of the grammar, strict or not.
+        ensures sentence { IfOk result (λ x. (tbs (looks_at_values self.now)).read (at place.now) ≡ got (tbs_of x) (behind (at place.now))) }
+    {
+        match self.read_at(alloc, tries, place) {
+            Ok((tbs, plain)) => {
+                if self.strict && !plain {
+                    return Err(place.refuse(Err::Error(X509Error::Generic)));
+                }
+                Ok(tbs)
+            }
             Err(e) => Err(e),
         }
     }
 
     /// Reads the signed part at a place that was looked at.
     #[tactic(auto, unfolding(crate::specs::TbsCertificate::tbs), using(x509_der::proofs::Marking::marks_of_readers, crate::specs::UniqueIdentifier::issuer_uid_plain, crate::specs::UniqueIdentifier::subject_uid_plain))]
-    pub fn read_at<'a>(
+    pub fn read_at<'a, L: Outside>(
         &self,
         alloc: Global,
         tries: &mut Tries,
-        place: &Place<'a>,
-    ) -> Result<(TbsCertificate<'a>, bool), Err<X509Error>>
-        ensures reads { ReadsAt is_x509_memory true strict (is_constructed 16) tbs_heads tbs_of (tbs (looks_at_values self.now)) (at place.now) tries.old tries.new result }
+        place: &Place<'a, L>,
+    ) -> Result<(TbsCertificate<'a>, bool), Refused<X509Error, L>>
+        ensures reads { ReadsAt is_x509_memory true strict (is_constructed 16) tbs_heads tbs_of (tbs (looks_at_values self.now)) L.adds (at place.now) (outside_of place.now) tries.old tries.new result }
         ensures shallow { looks_at_values self.now ≡ false → IfOk result (λ x. tries.new + 9 + 8 * value_bytes ((tbs_of x.0).extensions) + 8 * length (behind (at place.now)) ≤ tries.old + 8 * length (at place.now)) }
     {
         let contents = sequence_at(place)?;
-        let (fields, basic) = match read_basic_fields(alloc, tries, contents) {
+        let (fields, basic) = match read_basic_fields(alloc, tries, &contents) {
             Ok((fields, basic)) => (fields, basic),
             Err(e) => return Err(e),
         };
         let (fields, issuer_uid) = read_issuer_uid(tries, &fields)?;
         let (fields, subject_uid) = read_subject_uid(tries, &fields)?;
-        let (extensions, extensions_plain) = self
+        let (extensions, extensions_plain) = match self
             .extension_parser
-            .read_wrapped_at(alloc, tries, 3, &fields.place)?;
+            .read_wrapped_at(alloc, tries, 3, &fields.place)
+        {
+            Ok((extensions, plain)) => (extensions, plain),
+            Err(e) => return Err(e),
+        };
         let bytes = place.bytes();
         let tbs = TbsCertificate {
             version: basic.version.unwrap_or(X509Version::V1),

@@ -10,7 +10,7 @@ ghost use Rattle.x509_certs.specs.Validity.{Period, period_of, period_heads, val
 
 use jiff::SignedDuration;
 use std::alloc::Global;
-use x509_der::{Err, Fields, FromDer, Place, Tries};
+use x509_der::{Fields, FromDer, Outside, Place, Refused, Tries, ok};
 use x509_fields::{ASN1Time, Clock, X509Error, sequence_at};
 
 const SECONDS_PER_DAY: i64 = 86_400;
@@ -105,21 +105,15 @@ impl<'a> FromDer<'a, X509Error> for Validity {
 
     #[inline(always)]
     #[tactic(auto, unfolding(crate::specs::Validity::validity), using(x509_der::proofs::Marking::marks_of_readers))]
-    fn read_at(
+    fn read_at<L: Outside>(
         alloc: Global,
         tries: &mut Tries,
-        place: &Place<'a>,
-    ) -> Result<(Self, bool), Err<X509Error>> {
+        place: &Place<'a, L>,
+    ) -> Result<(Self, bool), Refused<X509Error, L>> {
         let contents = sequence_at(place)?;
-        let fields = Fields::of(tries, contents);
-        let (fields, not_before) = match fields.field(alloc, tries) {
-            Ok((fields, not_before)) => (fields, not_before),
-            Err(e) => return Err(e),
-        };
-        let (not_after, plain) = match fields.last(alloc, tries) {
-            Ok((not_after, plain)) => (not_after, plain),
-            Err(e) => return Err(e),
-        };
+        let fields = Fields::of(tries, &contents);
+        let (fields, not_before) = ok!(fields.field(alloc, tries));
+        let (not_after, plain) = ok!(fields.last(alloc, tries));
         let validity = Validity {
             not_before,
             not_after,

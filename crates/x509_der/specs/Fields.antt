@@ -2,20 +2,25 @@
 use Rattle.std.specs.Prelude.{◌≡◌, ℕ, zero, suc, if◌then◌else◌, ◌+◌, ◌-◌, ◌*◌, ◌≤◌, ◌&&◌, Bool, true, List, length, min, Option, Some, None, Result, Ok, Err, IfOk, IfErr}
 use Rattle.x509_der.specs.declared.fields.Fields.{Fields}
 use Rattle.x509_der.specs.declared.error.Err.{Err as Refusal}
+use Rattle.x509_der.specs.declared.error.Refused.{Refused}
 use Rattle.x509_der.specs.declared.header.Header.{Header}
 use Rattle.x509_der.specs.declared.look.Form.{Form}
 use Rattle.x509_der.specs.Looks.{behind, is_element, CountedBehind}
-use Rattle.x509_der.specs.Place.{at}
+use Rattle.x509_der.specs.Place.{at, outside_of}
 use Rattle.x509_der.specs.Plan.{Plan, soft, any_tag, nothing_left}
-use Rattle.x509_der.specs.Promises.{Answers, IsForeign, option_heads}
-use Rattle.x509_der.specs.Reading.{AddsAtLeast, Gives}
+use Rattle.x509_der.specs.Promises.{AnswersAt, GivesAt, IsForeign, option_heads}
+use Rattle.x509_der.specs.Reading.{AddsAtLeast}
 
 -- the bytes from the next field to the end of the container
-abbrev pub next_of : Fields → List ℕ
+abbrev pub next_of : {L : Type 0} → Fields L → List ℕ
 next_of f = at f.place
 
+-- what is told of the octets behind the container
+abbrev pub outer_of : {L : Type 0} → Fields L → L
+outer_of f = outside_of f.place
+
 -- whether all fields so far stand plainly
-abbrev pub plain_in : Fields → Bool
+abbrev pub plain_in : {L : Type 0} → Fields L → Bool
 plain_in f = f.plain
 
 -- a field and the look behind it: eight for each byte of the field
@@ -59,8 +64,9 @@ SpendsOnce tight next place old new (Err e) = tight place old new
 -- ---- steps
 
 -- What a step over a field promises: its reading, the mark so far, and its tries with the look behind it.
-pub record ReadsNext {E A X : Type 0} (is_memory : E → Bool) (takes_memory : Bool) (heads : A → ℕ) (view : X → List ℕ × A) (mark : X → Bool) (plan : Plan (Refusal E) A) (tight : List ℕ → ℕ → ℕ → Type 0) (plain : Bool) (place : List ℕ) (old new : ℕ) (result : Result X (Refusal E)) : Type 0 where
-  pub reads : Answers is_memory takes_memory view result (plan.read place)
+pub record ReadsNext {E A X L : Type 0} (is_memory : E → Bool) (takes_memory : Bool) (heads : A → ℕ) (view : X → List ℕ × A) (beyond : X → L) (mark : X → Bool) (plan : Plan (Refusal E) A) (tight : List ℕ → ℕ → ℕ → Type 0) (plain : Bool) (more : ℕ → L → L) (place : List ℕ) (outside : L) (old new : ℕ) (result : Result X (Refused E L)) : Type 0 where
+  pub reads : AnswersAt is_memory takes_memory view plan more place outside result
+  pub outer : IfOk result (λ x. beyond x ≡ outside)
   pub marks : IfOk result (λ x. mark x ≡ (plain && plan.marks place))
   pub grows : old ≤ new
   pub count : CountedStep (λ x. (view x).0) old new place result
@@ -68,8 +74,9 @@ pub record ReadsNext {E A X : Type 0} (is_memory : E → Bool) (takes_memory : B
   pub once : SpendsOnce tight (λ x. (view x).0) place old new result
 
 -- The same of a field that may be absent.
-pub record ReadsSoft {E A X : Type 0} (is_memory : E → Bool) (form : Form) (own : Header → Bool) (heads : A → ℕ) (view : X → List ℕ × Option A) (mark : X → Bool) (plan : Plan (Refusal E) A) (tight : List ℕ → ℕ → ℕ → Type 0) (plain : Bool) (place : List ℕ) (old new : ℕ) (result : Result X (Refusal E)) : Type 0 where
-  pub reads : Answers is_memory true view result ((soft any_tag plan).read place)
+pub record ReadsSoft {E A X L : Type 0} (is_memory : E → Bool) (form : Form) (own : Header → Bool) (heads : A → ℕ) (view : X → List ℕ × Option A) (beyond : X → L) (mark : X → Bool) (plan : Plan (Refusal E) A) (tight : List ℕ → ℕ → ℕ → Type 0) (plain : Bool) (more : ℕ → L → L) (place : List ℕ) (outside : L) (old new : ℕ) (result : Result X (Refused E L)) : Type 0 where
+  pub reads : AnswersAt is_memory true view (soft any_tag plan) more place outside result
+  pub outer : IfOk result (λ x. beyond x ≡ outside)
   pub marks : IfOk result (λ x. mark x ≡ (plain && (soft any_tag plan).marks place))
   pub grows : old ≤ new
   pub count : CountedSoftStep view old new place result
@@ -79,8 +86,9 @@ pub record ReadsSoft {E A X : Type 0} (is_memory : E → Bool) (form : Form) (ow
   pub once : SpendsOnce tight (λ x. (view x).0) place old new result
 
 -- What a step over a field promises that is one element with no other in it: it tries nothing but the next place.
-pub record StepsLeaf {E A X : Type 0} (view : X → List ℕ × A) (mark : X → Bool) (plan : Plan (Refusal E) A) (plain : Bool) (place : List ℕ) (old new : ℕ) (result : Result X (Refusal E)) : Type 0 where
-  pub reads : Gives view result (plan.read place)
+pub record StepsLeaf {E A X L : Type 0} (view : X → List ℕ × A) (beyond : X → L) (mark : X → Bool) (plan : Plan (Refusal E) A) (plain : Bool) (more : ℕ → L → L) (place : List ℕ) (outside : L) (old new : ℕ) (result : Result X (Refused E L)) : Type 0 where
+  pub reads : GivesAt view plan more place outside result
+  pub outer : IfOk result (λ x. beyond x ≡ outside)
   pub marks : IfOk result (λ x. mark x ≡ (plain && plan.marks place))
   pub grows : old ≤ new
   pub refused : IfErr result (λ _. new ≤ old)
@@ -94,8 +102,9 @@ SizedSoftBy (Some a) next place = length next + 2 ≤ length place
 SizedSoftBy None next place = next ≡ place
 
 -- The same of a field that may be absent: then nothing is tried.
-pub record StepsSoftLeaf {F A X : Type 0} (view : X → List ℕ × Option A) (mark : X → Bool) (plan : Plan F A) (plain : Bool) (place : List ℕ) (old new : ℕ) (result : X) : Type 0 where
+pub record StepsSoftLeaf {F A X L : Type 0} (view : X → List ℕ × Option A) (beyond : X → L) (mark : X → Bool) (plan : Plan F A) (plain : Bool) (place : List ℕ) (outside : L) (old new : ℕ) (result : X) : Type 0 where
   pub reads : (soft any_tag plan).read place ≡ Ok (view result)
+  pub outer : beyond result ≡ outside
   pub marks : mark result ≡ (plain && (soft any_tag plan).marks place)
   pub grows : old ≤ new
   pub sizes : SizedSoftBy (view result).1 (view result).0 place
@@ -104,8 +113,8 @@ pub record StepsSoftLeaf {F A X : Type 0} (view : X → List ℕ × Option A) (m
   pub once : LooksOnce place (view result).0 old new
 
 -- What reading the last field promises: nothing behind it is looked at, and it stands plainly where nothing does.
-pub record ReadsLast {E A X : Type 0} (is_memory : E → Bool) (takes_memory : Bool) (heads : A → ℕ) (view : X → A) (plan : Plan (Refusal E) A) (tight : List ℕ → ℕ → ℕ → Type 0) (plain : Bool) (place : List ℕ) (old new : ℕ) (result : Result (X × Bool) (Refusal E)) : Type 0 where
-  pub reads : Answers is_memory takes_memory (λ x. (behind place, view x.0)) result (plan.read place)
+pub record ReadsLast {E A X L : Type 0} (is_memory : E → Bool) (takes_memory : Bool) (heads : A → ℕ) (view : X → A) (plan : Plan (Refusal E) A) (tight : List ℕ → ℕ → ℕ → Type 0) (plain : Bool) (more : ℕ → L → L) (place : List ℕ) (outside : L) (old new : ℕ) (result : Result (X × Bool) (Refused E L)) : Type 0 where
+  pub reads : AnswersAt is_memory takes_memory (λ x. (behind place, view x.0)) plan more place outside result
   pub marks : IfOk result (λ x. x.1 ≡ (plain && (plan.marks place && nothing_left (behind place))))
   pub grows : old ≤ new
   pub count : CountedBehind (length (behind place)) old new (length place) result

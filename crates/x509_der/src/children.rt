@@ -5,12 +5,13 @@ ghost use Rattle.x509_der.specs.declared.children.Entry.{Entry as EntryOf};
 ghost use Rattle.x509_der.specs.Cut.{Cut, IsBehind};
 ghost use Rattle.x509_der.specs.Entries.{IsEntry};
 ghost use Rattle.x509_der.specs.Laws.{IsBytes};
-ghost use Rattle.x509_der.specs.Looks.{behind, is_element, place_at, is_some_reading, tried_behind};
-ghost use Rattle.x509_der.specs.Reading.{AddsAtLeast, Element, element_at, strict, loose, tried};
+ghost use Rattle.x509_der.specs.Looks.{behind, is_element, place_at, is_some_reading};
+ghost use Rattle.x509_der.specs.Reading.{AddsAtLeast, Element, element_at, strict, loose};
 
 use crate::child::{Child, Stop};
 use crate::header::Tag;
 use crate::look::Seen;
+use crate::outside::Nowhere;
 use crate::place::Place;
 use crate::tries::Tries;
 
@@ -40,7 +41,7 @@ pub struct Elements<'a, const N: usize> {
     window: &'a [u8],
     entries: [Entry; N],
     count: usize,
-    end: Place<'a>,
+    end: Place<'a, Nowhere>,
     ghost octets: { IsBytes window.now },
     ghost few: { count ≤ N },
     ghost each: { (k : ℕ) (other : EntryOf) → k < count → IsEntry window.now (place_at window.now k) (get_or entries k other) },
@@ -107,7 +108,7 @@ impl<'a, const N: usize> Elements<'a, N> {
 
     /// The place behind this many elements; behind the last one, the last place.
     #[inline(always)]
-    pub fn at(&self, k: usize) -> Place<'a>
+    pub fn at(&self, k: usize) -> Place<'a, Nowhere>
         requires { k ≤ N }
         ensures place { at result ≡ place_at (window_of self.now) k }
         ensures there { is_element (at result) ≡ true → k < N → k < count_of self.now }
@@ -123,11 +124,12 @@ impl<'a, const N: usize> Elements<'a, N> {
             };
             Place::again(
                 &self.window[entry.start..],
+                Nowhere,
                 &self.window[entry.beyond..],
                 seen,
             )
         } else {
-            self.end
+            self.end.same()
         }
     }
 

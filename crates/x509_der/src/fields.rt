@@ -2,52 +2,70 @@
 
 ghost use Rattle.std.specs.Prelude.{◌≡◌, ◌≤◌, ◌+◌, ◌&&◌, true, min, length, List, ℕ};
 ghost use Rattle.x509_der.specs.Cut.{Cut};
-ghost use Rattle.x509_der.specs.Fields.{next_of, plain_in, ahead, LooksOnce, ReadsLast, ReadsNext, ReadsSoft, StepsLeaf, StepsSoftLeaf};
+ghost use Rattle.x509_der.specs.Fields.{next_of, outer_of, plain_in, ahead, LooksOnce, ReadsLast, ReadsNext, ReadsSoft, StepsLeaf, StepsSoftLeaf};
 ghost use Rattle.x509_der.specs.Integer.{integer_bytes};
 ghost use Rattle.x509_der.specs.Leaves.{bool, bool_loose, u32, integer, implicit, implicit_u32, oid, octets};
 ghost use Rattle.x509_der.specs.Looks.{behind, is_element, tried_behind};
 ghost use Rattle.x509_der.specs.Oid.{oid_bytes};
+ghost use Rattle.x509_der.specs.Place.{bytes_in, outside_in};
 ghost use Rattle.x509_der.specs.Plan.{nothing_left};
 ghost use Rattle.x509_der.specs.Promises.{option_view};
 ghost use Rattle.x509_der.specs.Reading.{AddsAtLeast, Element, TriesOnce};
 
-use crate::error::{BerError, Err, ReadError};
+use crate::error::{BerError, ReadError, Refused};
 use crate::from_der::{FromDer, ReadAt};
 use crate::integer::Integer;
 use crate::oid::Oid;
+use crate::outside::Outside;
 use crate::place::Place;
 use crate::tries::Tries;
+use crate::window::Window;
 use std::alloc::Global;
 
 /// Where a reader stands in the fields of a container: the next field's place, whose header was looked at, and whether all
 /// fields so far stand plainly.
-#[derive(Clone, Copy, Debug)]
-pub struct Fields<'a> {
+#[derive(Debug, Drop)]
+pub struct Fields<'a, L> {
     /// The next field's place.
-    pub place: Place<'a>,
+    pub place: Place<'a, L>,
     pub(crate) plain: bool,
 }
 
-impl<'a> Fields<'a> {
+impl<'a, L: Outside> Fields<'a, L> {
     /// Before the first field of these contents.
     #[inline(always)]
-    pub fn of(tries: &mut Tries, contents: &'a [u8]) -> Fields<'a>
-        ensures place { next_of result ≡ contents.now }
+    pub fn of(tries: &mut Tries, contents: &Window<'a, L>) -> Fields<'a, L>
+        ensures place { next_of result ≡ bytes_in contents.now }
+        ensures outer { outer_of result ≡ outside_in contents.now }
         ensures plain { plain_in result ≡ true }
-        ensures tries { TriesOnce tries.old tries.new contents.now }
+        ensures tries { TriesOnce tries.old tries.new (bytes_in contents.now) }
         // One for each member of the contents at most, and one where they have a tail.
-        ensures once { (members : List Element) (tail : List ℕ) → Cut contents.now members tail → tries.new + ahead (next_of result) ≤ tries.old + length members + min 1 (length tail) }
+        ensures once { (members : List Element) (tail : List ℕ) → Cut (bytes_in contents.now) members tail → tries.new + ahead (next_of result) ≤ tries.old + length members + min 1 (length tail) }
     {
         Fields {
-            place: Place::look(tries, contents),
+            place: Place::inside(tries, contents),
             plain: true,
+        }
+    }
+
+    /// The same place.
+    #[inline(always)]
+    pub fn same(&self) -> Fields<'a, L>
+        ensures place { next_of result ≡ next_of self.now }
+        ensures outer { outer_of result ≡ outer_of self.now }
+        ensures plain { plain_in result ≡ plain_in self.now }
+    {
+        Fields {
+            place: self.place.same(),
+            plain: self.plain,
         }
     }
 
     /// Behind the field that stands here, with its mark.
     #[inline(always)]
-    pub fn behind(&self, tries: &mut Tries, plain: bool) -> Fields<'a>
+    pub fn behind(&self, tries: &mut Tries, plain: bool) -> Fields<'a, L>
         ensures place { next_of result ≡ behind (next_of self.now) }
+        ensures outer { outer_of result ≡ outer_of self.now }
         ensures plain { plain_in result ≡ (plain_in self.now && plain) }
         ensures exact { tries.new ≡ tried_behind tries.old (next_of self.now) }
         ensures few_tries { tries.new ≤ tries.old + min (length (behind (next_of self.now))) 1 }
@@ -67,8 +85,8 @@ impl<'a> Fields<'a> {
         &self,
         alloc: Global,
         tries: &mut Tries,
-    ) -> Result<(Fields<'a>, T), Err<E>>
-        ensures { ReadsNext E.is_memory T.takes_memory T.heads (λ x. (next_of x.0, T.view x.1)) (λ x. plain_in x.0) T.plan T.tight (plain_in self.now) (next_of self.now) tries.old tries.new result }
+    ) -> Result<(Fields<'a, L>, T), Refused<E, L>>
+        ensures { ReadsNext E.is_memory T.takes_memory T.heads (λ x. (next_of x.0, T.view x.1)) (λ x. outer_of x.0) (λ x. plain_in x.0) T.plan T.tight (plain_in self.now) L.adds (next_of self.now) (outer_of self.now) tries.old tries.new result }
     {
         match T::read_at(alloc, tries, &self.place) {
             Ok((value, plain)) => Ok((self.behind(tries, plain), value)),
@@ -82,8 +100,8 @@ impl<'a> Fields<'a> {
         &self,
         alloc: Global,
         tries: &mut Tries,
-    ) -> Result<(T, bool), Err<E>>
-        ensures { ReadsLast E.is_memory T.takes_memory T.heads T.view T.plan T.tight (plain_in self.now) (next_of self.now) tries.old tries.new result }
+    ) -> Result<(T, bool), Refused<E, L>>
+        ensures { ReadsLast E.is_memory T.takes_memory T.heads T.view T.plan T.tight (plain_in self.now) L.adds (next_of self.now) (outer_of self.now) tries.old tries.new result }
     {
         match T::read_at(alloc, tries, &self.place) {
             Ok((value, plain)) => Ok((value, self.plain & (plain & self.place.rest().is_empty()))),
@@ -97,8 +115,8 @@ impl<'a> Fields<'a> {
         &self,
         alloc: Global,
         tries: &mut Tries,
-    ) -> Result<(Fields<'a>, Option<T>), Err<E>>
-        ensures { ReadsSoft E.is_memory T.form T.own_tag T.heads (λ x. (next_of x.0, option_view T.view x.1)) (λ x. plain_in x.0) T.plan T.tight (plain_in self.now) (next_of self.now) tries.old tries.new result }
+    ) -> Result<(Fields<'a, L>, Option<T>), Refused<E, L>>
+        ensures { ReadsSoft E.is_memory T.form T.own_tag T.heads (λ x. (next_of x.0, option_view T.view x.1)) (λ x. outer_of x.0) (λ x. plain_in x.0) T.plan T.tight (plain_in self.now) L.adds (next_of self.now) (outer_of self.now) tries.old tries.new result }
     {
         match T::read_at(alloc, tries, &self.place) {
             Ok((value, plain)) => Ok((self.behind(tries, plain), Some(value))),
@@ -106,7 +124,7 @@ impl<'a> Fields<'a> {
                 if why.is_out_of_memory() {
                     return Err(why);
                 }
-                Ok((*self, None))
+                Ok((self.same(), None))
             }
         }
     }
@@ -118,8 +136,8 @@ impl<'a> Fields<'a> {
         reader: &R,
         alloc: Global,
         tries: &mut Tries,
-    ) -> Result<(Fields<'a>, Option<X>), Err<E>>
-        ensures { ReadsSoft E.is_memory R.form (R.own_tag reader.now) R.heads (λ x. (next_of x.0, option_view R.view x.1)) (λ x. plain_in x.0) (R.plan reader.now) R.tight (plain_in self.now) (next_of self.now) tries.old tries.new result }
+    ) -> Result<(Fields<'a, L>, Option<X>), Refused<E, L>>
+        ensures { ReadsSoft E.is_memory R.form (R.own_tag reader.now) R.heads (λ x. (next_of x.0, option_view R.view x.1)) (λ x. outer_of x.0) (λ x. plain_in x.0) (R.plan reader.now) R.tight (plain_in self.now) L.adds (next_of self.now) (outer_of self.now) tries.old tries.new result }
     {
         match reader.read_at(alloc, tries, &self.place) {
             Ok((value, plain)) => Ok((self.behind(tries, plain), Some(value))),
@@ -127,7 +145,7 @@ impl<'a> Fields<'a> {
                 if why.is_out_of_memory() {
                     return Err(why);
                 }
-                Ok((*self, None))
+                Ok((self.same(), None))
             }
         }
     }
@@ -135,8 +153,8 @@ impl<'a> Fields<'a> {
     /// An object identifier.
     #[inline(always)]
     #[tactic(auto, using(crate::proofs::Marking::marks_of_readers))]
-    pub fn oid(&self, tries: &mut Tries) -> Result<(Fields<'a>, Oid<'a>), Err<BerError>>
-        ensures { StepsLeaf (λ x. (next_of x.0, oid_bytes x.1)) (λ x. plain_in x.0) oid (plain_in self.now) (next_of self.now) tries.old tries.new result }
+    pub fn oid(&self, tries: &mut Tries) -> Result<(Fields<'a, L>, Oid<'a>), Refused<BerError, L>>
+        ensures { StepsLeaf (λ x. (next_of x.0, oid_bytes x.1)) (λ x. outer_of x.0) (λ x. plain_in x.0) oid (plain_in self.now) L.adds (next_of self.now) (outer_of self.now) tries.old tries.new result }
     {
         let value = self.place.oid()?;
         Ok((self.behind(tries, true), value))
@@ -145,8 +163,11 @@ impl<'a> Fields<'a> {
     /// An OCTET STRING in its primitive form.
     #[inline(always)]
     #[tactic(auto, using(crate::proofs::Marking::marks_of_readers))]
-    pub fn octets(&self, tries: &mut Tries) -> Result<(Fields<'a>, &'a [u8]), Err<BerError>>
-        ensures { StepsLeaf (λ x. (next_of x.0, x.1.now)) (λ x. plain_in x.0) octets (plain_in self.now) (next_of self.now) tries.old tries.new result }
+    pub fn octets(
+        &self,
+        tries: &mut Tries,
+    ) -> Result<(Fields<'a, L>, &'a [u8]), Refused<BerError, L>>
+        ensures { StepsLeaf (λ x. (next_of x.0, x.1.now)) (λ x. outer_of x.0) (λ x. plain_in x.0) octets (plain_in self.now) L.adds (next_of self.now) (outer_of self.now) tries.old tries.new result }
     {
         let value = self.place.octets()?;
         Ok((self.behind(tries, true), value))
@@ -155,8 +176,8 @@ impl<'a> Fields<'a> {
     /// An INTEGER from 0 to 4,294,967,295.
     #[inline(always)]
     #[tactic(auto, using(crate::proofs::Marking::marks_of_readers))]
-    pub fn u32(&self, tries: &mut Tries) -> Result<(Fields<'a>, u32), Err<BerError>>
-        ensures { StepsLeaf (λ x. (next_of x.0, x.1)) (λ x. plain_in x.0) u32 (plain_in self.now) (next_of self.now) tries.old tries.new result }
+    pub fn u32(&self, tries: &mut Tries) -> Result<(Fields<'a, L>, u32), Refused<BerError, L>>
+        ensures { StepsLeaf (λ x. (next_of x.0, x.1)) (λ x. outer_of x.0) (λ x. plain_in x.0) u32 (plain_in self.now) L.adds (next_of self.now) (outer_of self.now) tries.old tries.new result }
     {
         let value = self.place.u32()?;
         Ok((self.behind(tries, true), value))
@@ -165,8 +186,11 @@ impl<'a> Fields<'a> {
     /// An INTEGER of any size.
     #[inline(always)]
     #[tactic(auto, using(crate::proofs::Marking::marks_of_readers))]
-    pub fn integer(&self, tries: &mut Tries) -> Result<(Fields<'a>, Integer<'a>), Err<BerError>>
-        ensures { StepsLeaf (λ x. (next_of x.0, integer_bytes x.1)) (λ x. plain_in x.0) integer (plain_in self.now) (next_of self.now) tries.old tries.new result }
+    pub fn integer(
+        &self,
+        tries: &mut Tries,
+    ) -> Result<(Fields<'a, L>, Integer<'a>), Refused<BerError, L>>
+        ensures { StepsLeaf (λ x. (next_of x.0, integer_bytes x.1)) (λ x. outer_of x.0) (λ x. plain_in x.0) integer (plain_in self.now) L.adds (next_of self.now) (outer_of self.now) tries.old tries.new result }
     {
         let value = self.place.integer()?;
         Ok((self.behind(tries, true), value))
@@ -175,60 +199,60 @@ impl<'a> Fields<'a> {
     /// A BOOLEAN that may be absent.
     #[inline(always)]
     #[tactic(auto, using(crate::proofs::Marking::marks_of_readers))]
-    pub fn soft_bool(&self, tries: &mut Tries) -> (Fields<'a>, Option<bool>)
-        ensures { StepsSoftLeaf (λ x. (next_of x.0, x.1)) (λ x. plain_in x.0) bool (plain_in self.now) (next_of self.now) tries.old tries.new result }
+    pub fn soft_bool(&self, tries: &mut Tries) -> (Fields<'a, L>, Option<bool>)
+        ensures { StepsSoftLeaf (λ x. (next_of x.0, x.1)) (λ x. outer_of x.0) (λ x. plain_in x.0) bool (plain_in self.now) (next_of self.now) (outer_of self.now) tries.old tries.new result }
     {
         match self.place.bool() {
             Ok(value) => (self.behind(tries, true), Some(value)),
-            Err(_) => (*self, None),
+            Err(_) => (self.same(), None),
         }
     }
 
     /// A BOOLEAN by the basic rules that may be absent, and whether it is one by the strict rules too.
     #[inline(always)]
     #[tactic(auto, using(crate::proofs::Marking::marks_of_readers))]
-    pub fn soft_bool_loose(&self, tries: &mut Tries) -> (Fields<'a>, Option<bool>)
-        ensures { StepsSoftLeaf (λ x. (next_of x.0, x.1)) (λ x. plain_in x.0) bool_loose (plain_in self.now) (next_of self.now) tries.old tries.new result }
+    pub fn soft_bool_loose(&self, tries: &mut Tries) -> (Fields<'a, L>, Option<bool>)
+        ensures { StepsSoftLeaf (λ x. (next_of x.0, x.1)) (λ x. outer_of x.0) (λ x. plain_in x.0) bool_loose (plain_in self.now) (next_of self.now) (outer_of self.now) tries.old tries.new result }
     {
         match self.place.bool_marked() {
             Ok((value, plain)) => (self.behind(tries, plain), Some(value)),
-            Err(_) => (*self, None),
+            Err(_) => (self.same(), None),
         }
     }
 
     /// An INTEGER from 0 to 4,294,967,295 that may be absent.
     #[inline(always)]
     #[tactic(auto, using(crate::proofs::Marking::marks_of_readers))]
-    pub fn soft_u32(&self, tries: &mut Tries) -> (Fields<'a>, Option<u32>)
-        ensures { StepsSoftLeaf (λ x. (next_of x.0, x.1)) (λ x. plain_in x.0) u32 (plain_in self.now) (next_of self.now) tries.old tries.new result }
+    pub fn soft_u32(&self, tries: &mut Tries) -> (Fields<'a, L>, Option<u32>)
+        ensures { StepsSoftLeaf (λ x. (next_of x.0, x.1)) (λ x. outer_of x.0) (λ x. plain_in x.0) u32 (plain_in self.now) (next_of self.now) (outer_of self.now) tries.old tries.new result }
     {
         match self.place.u32() {
             Ok(value) => (self.behind(tries, true), Some(value)),
-            Err(_) => (*self, None),
+            Err(_) => (self.same(), None),
         }
     }
 
     /// Octets under this context tag, in their primitive form, that may be absent.
     #[inline(always)]
     #[tactic(auto, using(crate::proofs::Marking::marks_of_readers))]
-    pub fn soft_implicit(&self, tries: &mut Tries, number: u32) -> (Fields<'a>, Option<&'a [u8]>)
-        ensures { StepsSoftLeaf (λ x. (next_of x.0, option_view (λ octets. octets.now) x.1)) (λ x. plain_in x.0) (implicit number) (plain_in self.now) (next_of self.now) tries.old tries.new result }
+    pub fn soft_implicit(&self, tries: &mut Tries, number: u32) -> (Fields<'a, L>, Option<&'a [u8]>)
+        ensures { StepsSoftLeaf (λ x. (next_of x.0, option_view (λ octets. octets.now) x.1)) (λ x. outer_of x.0) (λ x. plain_in x.0) (implicit number) (plain_in self.now) (next_of self.now) (outer_of self.now) tries.old tries.new result }
     {
         match self.place.implicit(number) {
-            Ok(octets) => (self.behind(tries, true), Some(octets)),
-            Err(_) => (*self, None),
+            Ok(contents) => (self.behind(tries, true), Some(contents.bytes())),
+            Err(_) => (self.same(), None),
         }
     }
 
     /// A number of at most 32 bits under this context tag that may be absent.
     #[inline(always)]
     #[tactic(auto, using(crate::proofs::Marking::marks_of_readers))]
-    pub fn soft_implicit_u32(&self, tries: &mut Tries, number: u32) -> (Fields<'a>, Option<u32>)
-        ensures { StepsSoftLeaf (λ x. (next_of x.0, x.1)) (λ x. plain_in x.0) (implicit_u32 number) (plain_in self.now) (next_of self.now) tries.old tries.new result }
+    pub fn soft_implicit_u32(&self, tries: &mut Tries, number: u32) -> (Fields<'a, L>, Option<u32>)
+        ensures { StepsSoftLeaf (λ x. (next_of x.0, x.1)) (λ x. outer_of x.0) (λ x. plain_in x.0) (implicit_u32 number) (plain_in self.now) (next_of self.now) (outer_of self.now) tries.old tries.new result }
     {
         match self.place.implicit_u32(number) {
             Ok(value) => (self.behind(tries, true), Some(value)),
-            Err(_) => (*self, None),
+            Err(_) => (self.same(), None),
         }
     }
 

@@ -1,16 +1,17 @@
 //! The trait of what is read from one element.
 
-ghost use Rattle.std.specs.Prelude.{◌≡◌, ◌-◌, ⊤, Bool, List, ℕ, IfOk, length};
+ghost use Rattle.std.specs.Prelude.{◌≡◌, ⊤, Bool, List, ℕ, IfOk};
 ghost use Rattle.x509_der.specs.declared.error.Err.{Err as Refusal};
 ghost use Rattle.x509_der.specs.declared.header.Header.{Header};
 ghost use Rattle.x509_der.specs.declared.look.Form.{Form};
-ghost use Rattle.x509_der.specs.Place.{at};
+ghost use Rattle.x509_der.specs.Place.{at, outside_of};
 ghost use Rattle.x509_der.specs.Plan.{Plan};
 ghost use Rattle.x509_der.specs.Laws.{IsLawful, IsMarked, NeverMemory};
 ghost use Rattle.x509_der.specs.Reading.{tried};
-ghost use Rattle.x509_der.specs.Promises.{Answers, TriesBounded, ReadsAt, ReadsExactly};
+ghost use Rattle.x509_der.specs.Promises.{Answers, TriesBounded, ReadsAt, ReadsExactly, ReadsWhere};
 
-use crate::error::{Err, ReadError};
+use crate::error::{Err, Located, ReadError, Refused};
+use crate::outside::Outside;
 use crate::place::Place;
 use crate::tries::Tries;
 use std::alloc::Global;
@@ -52,8 +53,12 @@ pub trait FromDer<'a, E: ReadError>: Sized {
 
     /// Reads the element at a place that was looked at, tells whether it stands plainly, and counts the headers that it tries
     /// beyond that look.
-    fn read_at(alloc: Global, tries: &mut Tries, place: &Place<'a>) -> Result<(Self, bool), Err<E>>
-        ensures reads { ReadsAt E.is_memory takes_memory form own_tag heads view plan (at place.now) tries.old tries.new result }
+    fn read_at<L: Outside>(
+        alloc: Global,
+        tries: &mut Tries,
+        place: &Place<'a, L>,
+    ) -> Result<(Self, bool), Refused<E, L>>
+        ensures reads { ReadsAt E.is_memory takes_memory form own_tag heads view plan L.adds (at place.now) (outside_of place.now) tries.old tries.new result }
         ensures tight { tight (at place.now) tries.old tries.new };
 
     /// No refusal of the grammar is want of memory, so that is answered only where memory was refused.
@@ -73,8 +78,10 @@ pub trait FromDer<'a, E: ReadError>: Sized {
         ensures tight { tight i.now (tried tries.old i.now) tries.new }
     {
         let place = Place::look(tries, i);
-        let (value, plain) = Self::read_at(alloc, tries, &place)?;
-        Ok((place.rest(), value, plain))
+        match Self::read_at(alloc, tries, &place) {
+            Ok((value, plain)) => Ok((place.rest(), value, plain)),
+            Err(e) => Err(e.why),
+        }
     }
 
     /// The same without its mark.
@@ -96,6 +103,19 @@ pub trait FromDer<'a, E: ReadError>: Sized {
     {
         let mut tries = Tries::new();
         Self::read(alloc, &mut tries, i)
+    }
+
+    /// Reads the element at the front as [`FromDer::from_der`] does; a refusal has the offset of the place at which the
+    /// grammar refuses the bytes.
+    final fn from_der_located(alloc: Global, i: &'a [u8]) -> Result<(&'a [u8], Self), Located<E>>
+        ensures { ReadsWhere E.is_memory takes_memory (λ x. (x.0.now, view x.1)) plan i.now result }
+    {
+        let mut tries = Tries::new();
+        let place = Place::look_before(&mut tries, i, 0usize);
+        match Self::read_at(alloc, &mut tries, &place) {
+            Ok((value, _)) => Ok((place.rest(), value)),
+            Err(e) => Err(e.located(i.len())),
+        }
     }
 }
 
@@ -125,12 +145,12 @@ pub trait ReadAt<'a, E: ReadError, X>: Sized {
 
     /// Reads the element at a place that was looked at, tells whether it stands plainly, and counts the headers that it tries
     /// beyond that look.
-    fn read_at(
+    fn read_at<L: Outside>(
         &self,
         alloc: Global,
         tries: &mut Tries,
-        place: &Place<'a>,
-    ) -> Result<(X, bool), Err<E>>
-        ensures reads { ReadsAt E.is_memory takes_memory form (own_tag self.now) heads view (plan self.now) (at place.now) tries.old tries.new result }
+        place: &Place<'a, L>,
+    ) -> Result<(X, bool), Refused<E, L>>
+        ensures reads { ReadsAt E.is_memory takes_memory form (own_tag self.now) heads view (plan self.now) L.adds (at place.now) (outside_of place.now) tries.old tries.new result }
         ensures tight { tight (at place.now) tries.old tries.new };
 }

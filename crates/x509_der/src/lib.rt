@@ -17,18 +17,20 @@ mod laws;
 mod list;
 mod look;
 mod oid;
+mod outside;
 mod place;
 mod primitive;
 mod run;
 mod set_of;
 mod tries;
 mod unsigned;
+mod window;
 
 pub use any::Any;
 pub use bit_string::BitString;
 pub use child::{Child, Stop};
 pub use children::{Children, Elements};
-pub use error::{BerError, Err, ErrorKind, ReadError};
+pub use error::{BerError, Err, ErrorKind, Located, ReadError, Refused};
 pub use fields::Fields;
 pub use from_der::{FromDer, ReadAt};
 pub use front::{
@@ -43,11 +45,13 @@ pub use integer::Integer;
 pub use laws::{cut_laws, leaf_laws, oid_laws};
 pub use list::Sequence;
 pub use oid::Oid;
+pub use outside::{Nowhere, Outside};
 pub use place::Place;
 pub use run::{read_run, read_run1, read_to_end};
 pub use set_of::{SetOf, read_set_of};
 pub use tries::Tries;
 pub use unsigned::UnsignedBytes;
+pub use window::Window;
 
 #[cfg(test)]
 mod tests;

@@ -5,19 +5,24 @@ ghost use Rattle.x509_der.specs.declared.look.Form.{Form};
 ghost use Rattle.x509_der.specs.Laws.{IsBytes};
 ghost use Rattle.x509_der.specs.Leaves.{any_header, any_loose};
 ghost use Rattle.x509_der.specs.Looks.{wanted, header_of, found_or, behind, is_element, is_some_reading, tried_behind};
+ghost use Rattle.x509_der.specs.Plan.{stop_here};
 ghost use Rattle.x509_der.specs.Reading.{Gives, TriesOnce, AddsAtLeast, header_at, element_at, element_of, only_strict, strict, loose};
 
 use crate::any::Any;
 use crate::child::{Child, Stop};
-use crate::error::{BerError, Err};
+use crate::error::{BerError, Err, Refused};
 use crate::header::{Header, Tag};
 use crate::look::{Form, HeaderError, Seen, class_of, seen_header};
+use crate::outside::{Nowhere, Outside};
 use crate::tries::Tries;
+use crate::window::Window;
 
 /// A place of a window whose first header was looked at.
-#[derive(Clone, Copy, Debug)]
-pub struct Place<'a> {
+#[derive(Debug, Drop)]
+pub struct Place<'a, L> {
     pub(crate) bytes: &'a [u8],
+    // What is told of the octets behind the window.
+    pub(crate) outside: L,
     pub(crate) beyond: &'a [u8],
     // The header that stands there; of no meaning where none was found.
     pub(crate) octet: u8,
@@ -32,14 +37,39 @@ pub struct Place<'a> {
     ghost first: { found ≡ true → slice_index bytes.now 0 ≡ octet },
 }
 
-impl<'a> Place<'a> {
-    ghost use Rattle.x509_der.specs.Place.{at, seen_at};
-    ghost use Rattle.x509_der.specs.Children.{child_element, IsStop};
+impl<'a> Place<'a, Nowhere> {
+    ghost use Rattle.x509_der.specs.Place.{at};
 
     /// Looks at the first header of the bytes: one try, where there is a byte.
     #[inline(always)]
-    pub fn look(tries: &mut Tries, bytes: &'a [u8]) -> Place<'a>
+    pub fn look(tries: &mut Tries, bytes: &'a [u8]) -> Place<'a, Nowhere>
         ensures bytes { at result ≡ bytes.now }
+        ensures tries { TriesOnce tries.old tries.new bytes.now }
+    {
+        Place::look_before(tries, bytes, Nowhere)
+    }
+}
+
+impl<'a, L: Outside> Place<'a, L> {
+    ghost use Rattle.x509_der.specs.Place.{at, seen_at, outside_of, bytes_in, outside_in};
+    ghost use Rattle.x509_der.specs.Promises.{GivesAt, JudgedAt};
+    ghost use Rattle.x509_der.specs.Children.{child_element, IsStop};
+
+    /// Looks at the first header of a window: one try, where there is a byte.
+    #[inline(always)]
+    pub fn inside(tries: &mut Tries, window: &Window<'a, L>) -> Place<'a, L>
+        ensures bytes { at result ≡ bytes_in window.now }
+        ensures outside { outside_of result ≡ outside_in window.now }
+        ensures tries { TriesOnce tries.old tries.new (bytes_in window.now) }
+    {
+        Place::look_before(tries, window.bytes, window.outside)
+    }
+
+    /// Looks at the first header of the bytes, behind whose window so many octets stand.
+    #[inline(always)]
+    pub(crate) fn look_before(tries: &mut Tries, bytes: &'a [u8], outside: L) -> Place<'a, L>
+        ensures bytes { at result ≡ bytes.now }
+        ensures outside { outside_of result ≡ outside }
         ensures tries { TriesOnce tries.old tries.new bytes.now }
     {
         match seen_header(tries, bytes) {
@@ -55,6 +85,7 @@ impl<'a> Place<'a> {
                 ),
             ) => Place {
                 bytes,
+                outside,
                 beyond,
                 octet,
                 tag,
@@ -65,6 +96,7 @@ impl<'a> Place<'a> {
             },
             Err(why) => Place {
                 bytes,
+                outside,
                 beyond: bytes,
                 octet: 0,
                 tag: Tag(0),
@@ -78,13 +110,15 @@ impl<'a> Place<'a> {
 
     /// A place whose header was seen before.
     #[inline(always)]
-    pub(crate) fn again(bytes: &'a [u8], beyond: &'a [u8], seen: Seen) -> Place<'a>
+    pub(crate) fn again(bytes: &'a [u8], outside: L, beyond: &'a [u8], seen: Seen) -> Place<'a, L>
         requires looked { (form : Form) → header_at form bytes.now ≡ wanted (λ s. (beyond.now, header_of s)) (λ s. s.fewest) form (Ok seen) }
         requires first { slice_index bytes.now 0 ≡ seen.octet }
-        ensures { at result ≡ bytes.now }
+        ensures bytes { at result ≡ bytes.now }
+        ensures outside { outside_of result ≡ outside }
     {
         Place {
             bytes,
+            outside,
             beyond,
             octet: seen.octet,
             tag: seen.tag,
@@ -111,18 +145,73 @@ impl<'a> Place<'a> {
         Some(&self.beyond[length..])
     }
 
+    /// The same place.
+    #[inline(always)]
+    pub fn same(&self) -> Place<'a, L>
+        ensures bytes { at result ≡ at self.now }
+        ensures outside { outside_of result ≡ outside_of self.now }
+    {
+        Place {
+            bytes: self.bytes,
+            outside: self.outside,
+            beyond: self.beyond,
+            octet: self.octet,
+            tag: self.tag,
+            length: self.length,
+            fewest: self.fewest,
+            found: self.found,
+            why: self.why,
+        }
+    }
+
     /// Looks at what stands behind the element; where no element stands, the place stays. One try, where there is a byte.
     #[inline(always)]
-    pub fn next(&self, tries: &mut Tries) -> Place<'a>
+    pub fn next(&self, tries: &mut Tries) -> Place<'a, L>
         ensures place { at result ≡ behind (at self.now) }
+        ensures outside { outside_of result ≡ outside_of self.now }
         ensures exact { tries.new ≡ tried_behind tries.old (at self.now) }
         ensures few_tries { tries.new ≤ tries.old + min (length (behind (at self.now))) 1 }
         ensures some { is_element (at self.now) ≡ true → AddsAtLeast (min (length (behind (at self.now))) 1) tries.old tries.new }
         ensures grows { tries.old ≤ tries.new }
     {
         match self.behind_element() {
-            Some(rest) => Place::look(tries, rest),
-            None => *self,
+            Some(rest) => Place::look_before(tries, rest, self.outside),
+            None => self.same(),
+        }
+    }
+
+    /// A refusal of this place.
+    #[inline(always)]
+    pub fn refuse<E>(&self, why: Err<E>) -> Refused<E, L>
+        ensures why { result.why ≡ why }
+        ensures left { result.left ≡ stop_here L.adds (at self.now) (outside_of self.now) }
+    {
+        Refused {
+            why,
+            left: self.outside.more(self.bytes.len()),
+        }
+    }
+
+    /// What is left of the place's window where this rest of its bytes stands.
+    #[inline(always)]
+    pub fn left(&self, rest: &'a [u8]) -> Window<'a, L>
+        ensures bytes { bytes_in result ≡ rest.now }
+        ensures outside { outside_in result ≡ outside_of self.now }
+    {
+        Window {
+            bytes: rest,
+            outside: self.outside,
+        }
+    }
+
+    /// What was judged at this place: its refusals are of this place.
+    #[inline(always)]
+    pub fn judge<T, E>(&self, judged: Result<T, Err<E>>) -> Result<T, Refused<E, L>>
+        ensures { JudgedAt L.adds judged (at self.now) (outside_of self.now) result }
+    {
+        match judged {
+            Ok(value) => Ok(value),
+            Err(why) => Err(self.refuse(why)),
         }
     }
 
@@ -213,11 +302,11 @@ impl<'a> Place<'a> {
     /// The strict header, and what stands behind it.
     #[inline(always)]
     #[tactic(auto, unfolding(crate::specs::Leaves::any_header))]
-    pub fn header(&self) -> Result<(&'a [u8], Header), Err<BerError>>
-        ensures reading { Gives (λ x. (x.0.now, x.1)) result (any_header.read (at self.now)) }
+    pub fn header(&self) -> Result<(&'a [u8], Header), Refused<BerError, L>>
+        ensures reading { GivesAt (λ x. (x.0.now, x.1)) any_header L.adds (at self.now) (outside_of self.now) result }
         ensures sizes { IfOk result (λ x. length x.0.now + 2 ≤ length (at self.now)) }
     {
-        self.header_in(Form::Strict)
+        self.judge(self.header_in(Form::Strict))
     }
 
     /// The element and what stands behind it.
@@ -268,16 +357,16 @@ impl<'a> Place<'a> {
     /// The element, its length in any octets, and whether they are the fewest: then it is the strict element too.
     #[inline(always)]
     #[tactic(auto, unfolding(crate::specs::Leaves::any_loose))]
-    pub fn any_marked(&self) -> Result<(Any<'a>, bool), Err<BerError>>
+    pub fn any_marked(&self) -> Result<(Any<'a>, bool), Refused<BerError, L>>
         ensures first { IfOk result (λ _. slice_index (at self.now) 0 ≡ (seen_at self.now).octet) }
-        ensures reading { Gives (λ x. (behind (at self.now), element_of x.0)) result (any_loose.read (at self.now)) }
+        ensures reading { GivesAt (λ x. (behind (at self.now), element_of x.0)) any_loose L.adds (at self.now) (outside_of self.now) result }
         ensures strictly { IfOk result (λ x. element_at strict (at self.now) ≡ only_strict x.1 (behind (at self.now), element_of x.0)) }
         ensures there { IfOk result (λ _. is_element (at self.now) ≡ true) }
         ensures sizes { IfOk result (λ x. length (behind (at self.now)) + length (element_of x.0).contents + 2 ≤ length (at self.now)) }
     {
         match self.marked_and_rest() {
             Ok((_, any, strict)) => Ok((any, strict)),
-            Err(e) => Err(e),
+            Err(e) => Err(self.refuse(e)),
         }
     }
 

@@ -1,14 +1,17 @@
 //! Members of sets, of which one alone takes no memory.
 
-ghost use Rattle.std.specs.Prelude.{◌≡◌, ◌+◌, ◌*◌, ◌∷◌, [], map, IfOk, IfErr, IsOk};
+ghost use Rattle.std.specs.Prelude.{◌≡◌, ◌∷◌, [], map, IfOk, IfErr, IsOk};
+ghost use Rattle.x509_der.specs.Place.{bytes_in, outside_in};
 ghost use Rattle.x509_der.specs.Plan.{run1};
-ghost use Rattle.x509_der.specs.Promises.{ReadsRun, empty_run};
+ghost use Rattle.x509_der.specs.Promises.{ReadsList, empty_run};
 
-use crate::error::{Err, ErrorKind, ReadError};
+use crate::error::{Err, ErrorKind, ReadError, Refused};
 use crate::from_der::FromDer;
 use crate::list::Sequence;
+use crate::outside::Outside;
 use crate::run::read_run;
 use crate::tries::Tries;
+use crate::window::Window;
 use std::alloc::{AllocError, AllocFailed, Global};
 use std::marker::Model;
 
@@ -110,20 +113,26 @@ impl<T: Copy> SetOf<T> {
 
 /// The longest run of members, of which there is at least one, and its mark.
 #[inline(always)]
-pub fn read_set_of<'a, E: ReadError, T: FromDer<'a, E> + Drop>(
+pub fn read_set_of<'a, E: ReadError, T: FromDer<'a, E> + Drop, L: Outside>(
     alloc: Global,
     tries: &mut Tries,
-    i: &'a [u8],
-) -> Result<(&'a [u8], SetOf<T>, bool), Err<E>>
-    ensures { ReadsRun E.is_memory T.form T.own_tag T.heads (λ x. (x.0.now, map T.view x.1)) (λ x. x.2) (run1 (empty_run E.of_list) T.plan) i.now tries.old tries.new result }
+    i: &Window<'a, L>,
+) -> Result<(&'a [u8], SetOf<T>, bool), Refused<E, L>>
+    ensures { ReadsList E.is_memory T.form T.own_tag T.heads (λ x. (x.0.now, map T.view x.1)) (λ x. x.2) (run1 (empty_run E.of_list) T.plan) L.adds (bytes_in i.now) (outside_in i.now) tries.old tries.new result }
 {
-    let (rest, first, plain) = match T::read_marked(alloc, tries, i) {
+    let (rest, first, plain) = match T::read_marked(alloc, tries, i.bytes) {
         Ok(read) => read,
         Err(e) => {
             if e.is_out_of_memory() {
-                return Err(e);
+                return Err(Refused {
+                    why: e,
+                    left: i.outside,
+                });
             }
-            return Err(Err::Error(E::from_list(ErrorKind::Many1)));
+            return Err(Refused {
+                why: Err::Error(E::from_list(ErrorKind::Many1)),
+                left: i.outside.more(i.bytes.len()),
+            });
         }
     };
     if rest.is_empty() {
@@ -135,9 +144,18 @@ pub fn read_set_of<'a, E: ReadError, T: FromDer<'a, E> + Drop>(
             plain,
         ));
     }
-    let (rest, others, marked) = read_run(alloc, tries, rest)?;
+    let (rest, others, marked) = match read_run(alloc, tries, rest) {
+        Ok(read) => read,
+        Err(why) => return Err(Refused {
+            why,
+            left: i.outside,
+        }),
+    };
     match SetOf::with_first(first, others) {
         Ok(set) => Ok((rest, set, plain & marked)),
-        Err(_) => Err(Err::out_of_memory()),
+        Err(_) => Err(Refused {
+            why: Err::out_of_memory(),
+            left: i.outside,
+        }),
     }
 }

@@ -8,7 +8,7 @@ ghost use Rattle.x509_extensions.specs.Extension.{Extension, extension_of, exten
 use crate::parsed::ParsedExtension;
 use crate::parser::X509ExtensionParser;
 use std::alloc::Global;
-use x509_der::{Err, FromDer, Oid, Place, Tries};
+use x509_der::{FromDer, Oid, Outside, Place, Refused, Tries};
 use x509_fields::{TryClone, X509Error};
 
 /// An extension of a certificate, of a list or of an entry of one (RFC 5280, section 4.2).
@@ -81,11 +81,11 @@ impl<'a> FromDer<'a, X509Error> for X509Extension<'a> {
 
     ghost takes_memory = { true };
 
-    fn read_at(
+    fn read_at<L: Outside>(
         alloc: Global,
         tries: &mut Tries,
-        place: &Place<'a>,
-    ) -> Result<(Self, bool), Err<X509Error>> {
+        place: &Place<'a, L>,
+    ) -> Result<(Self, bool), Refused<X509Error, L>> {
         X509ExtensionParser::new().read_at(alloc, tries, place)
     }
 

@@ -1,21 +1,22 @@
 //! Readers of extensions in their SEQUENCE, and of those that close a structure.
 
-ghost use Rattle.std.specs.Prelude.{◌≡◌, ◌<◌, ◌≤◌, ◌+◌, ◌-◌, ◌*◌, [], true, false, IfOk, IsErr, map, min, length, sum_by};
-ghost use Rattle.x509_der.specs.Place.{at};
+ghost use Rattle.std.specs.Prelude.{◌≡◌, ◌≤◌, ◌+◌, ◌-◌, ◌*◌, [], true, false, IfOk, IsErr, map, min, length, sum_by};
+ghost use Rattle.x509_der.specs.Place.{at, outside_of, bytes_in, outside_in};
 ghost use Rattle.x509_der.specs.Plan.{run, to_end, marks_of_members};
 ghost use Rattle.x509_der.specs.Primitives.{is_constructed};
-ghost use Rattle.x509_der.specs.Promises.{Answers, TriesBounded, ended_early};
-ghost use Rattle.x509_der.specs.Reading.{Gives, AddsAtLeast, strict};
+ghost use Rattle.x509_der.specs.Promises.{Answers, TriesBounded, ended_early, AnswersAt, GivesAt, ReadsAt};
+ghost use Rattle.x509_der.specs.Reading.{AddsAtLeast, strict};
 ghost use Rattle.x509_fields.specs.declared.error.X509Error.TheVariants as x509;
 ghost use Rattle.x509_fields.specs.Errors.{is_x509_memory};
 ghost use Rattle.x509_extensions.specs.Extension.{extension_of, value_bytes, extension_heads, extension};
 ghost use Rattle.x509_extensions.specs.ExtensionList.{extensions_heads, wrapped_heads, extensions, closes, wrapper_header, wrapped_extensions};
+ghost use Rattle.x509_der.specs.Looks.{behind};
 
 use crate::extension::X509Extension;
 use crate::parser::X509ExtensionParser;
 use std::alloc::Global;
-use x509_der::{Class, Err, ErrorKind, Header, Place, Sequence, Tries, read_sequence};
-use x509_fields::X509Error;
+use x509_der::{Class, Err, ErrorKind, Header, Outside, Place, Refused, Sequence, Tries, Window};
+use x509_fields::{X509Error, sequence_at};
 
 impl X509ExtensionParser {
     /// Reads a SEQUENCE that extensions fill (RFC 5280, section 4.1.2.9).
@@ -23,7 +24,6 @@ impl X509ExtensionParser {
     /// # Errors
     ///
     /// Those of the SEQUENCE; `NomError(Eof)` where what stands in it is no extension; `Failure(OutOfMemory)`.
-    #[tactic(auto, unfolding(crate::specs::ExtensionList::extensions), using(x509_der::proofs::Marking::marks_of_readers))]
     pub fn read_list<'a>(
         &self,
         alloc: Global,
@@ -35,9 +35,25 @@ impl X509ExtensionParser {
         ensures tries { TriesBounded strict (is_constructed 16) extensions_heads (λ x. (x.0.now, map extension_of x.1)) i.now tries.old tries.new result }
         ensures shallow { self.now.deep_parse_extensions ≡ false → IfOk result (λ x. tries.new + 8 + 8 * value_bytes (map extension_of x.1) + 8 * length x.0.now ≤ tries.old + 8 * length i.now) }
     {
-        let (rest, contents) = read_sequence(tries, i).map_err(|e| e.convert())?;
-        let (list, plain) = self.read_to_end(alloc, tries, contents)?;
-        Ok((rest, list, plain))
+        let place = Place::look(tries, i);
+        let (list, plain) = self.list_at(alloc, tries, &place)?;
+        Ok((place.rest(), list, plain))
+    }
+
+    /// The same at a place that was looked at.
+    #[tactic(auto, unfolding(crate::specs::ExtensionList::extensions), using(x509_der::proofs::Marking::marks_of_readers))]
+    #[inline(always)]
+    pub(crate) fn list_at<'a, L: Outside>(
+        &self,
+        alloc: Global,
+        tries: &mut Tries,
+        place: &Place<'a, L>,
+    ) -> Result<(Sequence<X509Extension<'a>>, bool), Refused<X509Error, L>>
+        ensures reads { ReadsAt is_x509_memory true strict (is_constructed 16) extensions_heads (λ x. map extension_of x) (extensions self.now.deep_parse_extensions) L.adds (at place.now) (outside_of place.now) tries.old tries.new result }
+        ensures shallow { self.now.deep_parse_extensions ≡ false → IfOk result (λ x. tries.new + 9 + 8 * value_bytes (map extension_of x.0) + 8 * length (behind (at place.now)) ≤ tries.old + 8 * length (at place.now)) }
+    {
+        let contents = sequence_at(place)?;
+        self.read_to_end(alloc, tries, &contents)
     }
 
     /// Reads the extensions that close a structure: none where nothing is left, else a wrapper with this tag number and
@@ -66,20 +82,23 @@ impl X509ExtensionParser {
         ensures shallow { self.now.deep_parse_extensions ≡ false → IfOk result (λ x. tries.new + 8 * value_bytes (map extension_of x.0) ≤ tries.old + 8 * length i.now) }
     {
         let place = Place::look(tries, i);
-        self.read_wrapped_at(alloc, tries, number, &place)
+        match self.read_wrapped_at(alloc, tries, number, &place) {
+            Ok(read) => Ok(read),
+            Err(e) => Err(e.why),
+        }
     }
 
     /// The same at a place that was looked at.
     #[tactic(auto, unfolding(crate::specs::ExtensionList::wrapped_extensions, crate::specs::ExtensionList::wrapped), using(x509_der::proofs::Marking::marks_of_readers))]
     #[inline(always)]
-    pub fn read_wrapped_at<'a>(
+    pub fn read_wrapped_at<'a, L: Outside>(
         &self,
         alloc: Global,
         tries: &mut Tries,
         number: u32,
-        place: &Place<'a>,
-    ) -> Result<(Sequence<X509Extension<'a>>, bool), Err<X509Error>>
-        ensures reads { Answers is_x509_memory true (λ x. ([], map extension_of x.0)) result ((wrapped_extensions number self.now.deep_parse_extensions).read (at place.now)) }
+        place: &Place<'a, L>,
+    ) -> Result<(Sequence<X509Extension<'a>>, bool), Refused<X509Error, L>>
+        ensures reads { AnswersAt is_x509_memory true (λ x. ([], map extension_of x.0)) (wrapped_extensions number self.now.deep_parse_extensions) L.adds (at place.now) (outside_of place.now) result }
         ensures marks { IfOk result (λ x. x.1 ≡ (wrapped_extensions number self.now.deep_parse_extensions).marks (at place.now)) }
         ensures grows { tries.old ≤ tries.new }
         ensures count { tries.new ≤ tries.old + (8 * length (at place.now) - 8) }
@@ -93,30 +112,35 @@ impl X509ExtensionParser {
         }
         let (inner, header) = wrapper_of(place, number)?;
         let closes = closes(number, header, inner);
-        let (rest, list, plain) = self.read_list(alloc, tries, inner)?;
+        let inside = place.left(inner);
+        let sequence = Place::inside(tries, &inside);
+        let (list, plain) = self.list_at(alloc, tries, &sequence)?;
+        let rest = sequence.rest();
         if !rest.is_empty() {
-            return Err(Err::Error(X509Error::NomError(ErrorKind::Eof)));
+            let why = Err::Error(X509Error::NomError(ErrorKind::Eof));
+            return Err(inside.refuse_at(rest, why));
         }
         Ok((list, closes & plain))
     }
 
     /// Extensions up to the end of the bytes. Room is asked for first: for one in each 32 bytes, and for eight at most.
-    pub(crate) fn read_to_end<'a>(
+    pub(crate) fn read_to_end<'a, L: Outside>(
         &self,
         alloc: Global,
         tries: &mut Tries,
-        i: &'a [u8],
-    ) -> Result<(Sequence<X509Extension<'a>>, bool), Err<X509Error>>
-        ensures marks { IfOk result (λ x. x.1 ≡ marks_of_members (extension self.now.deep_parse_extensions) i.now) }
-        ensures reads { Answers is_x509_memory true (λ x. ([], map extension_of x.0)) result ((to_end (ended_early x509.NomError) (run (extension self.now.deep_parse_extensions))).read i.now) }
+        contents: &Window<'a, L>,
+    ) -> Result<(Sequence<X509Extension<'a>>, bool), Refused<X509Error, L>>
+        ensures marks { IfOk result (λ x. x.1 ≡ marks_of_members (extension self.now.deep_parse_extensions) (bytes_in contents.now)) }
+        ensures reads { AnswersAt is_x509_memory true (λ x. ([], map extension_of x.0)) (to_end (ended_early x509.NomError) (run (extension self.now.deep_parse_extensions))) L.adds (bytes_in contents.now) (outside_in contents.now) result }
         ensures grows { tries.old ≤ tries.new }
-        ensures count { tries.new ≤ tries.old + 8 * length i.now }
+        ensures count { tries.new ≤ tries.old + 8 * length (bytes_in contents.now) }
         ensures least { IfOk result (λ x. AddsAtLeast (sum_by extension_heads (map extension_of x.0)) tries.old tries.new) }
-        ensures shallow { self.now.deep_parse_extensions ≡ false → IfOk result (λ x. tries.new + 8 * value_bytes (map extension_of x.0) ≤ tries.old + 8 * length i.now) }
+        ensures shallow { self.now.deep_parse_extensions ≡ false → IfOk result (λ x. tries.new + 8 * value_bytes (map extension_of x.0) ≤ tries.old + 8 * length (bytes_in contents.now)) }
     {
+        let i = contents.bytes();
         let mut list = match Vec::with_capacity(alloc, i.len().div_ceil(32).min(8)) {
             Ok(room) => Sequence::from_vec(room),
-            Err(_) => return Err(Err::out_of_memory()),
+            Err(_) => return Err(contents.refuse_at(i, Err::out_of_memory())),
         };
         let mut rest = i;
         let mut plain = true;
@@ -124,16 +148,17 @@ impl X509ExtensionParser {
             match self.read_marked(alloc, tries, rest) {
                 Ok((after, extension, marked)) => {
                     if list.push(extension).is_err() {
-                        return Err(Err::out_of_memory());
+                        return Err(contents.refuse_at(rest, Err::out_of_memory()));
                     }
                     plain &= marked;
                     rest = after;
                 }
                 Err(e) => {
                     if e.is_out_of_memory() {
-                        return Err(e);
+                        return Err(contents.refuse_at(rest, e));
                     }
-                    return Err(Err::Error(X509Error::NomError(ErrorKind::Eof)));
+                    let why = Err::Error(X509Error::NomError(ErrorKind::Eof));
+                    return Err(contents.refuse_at(rest, why));
                 }
             }
         }
@@ -160,13 +185,16 @@ pub fn closes(number: u32, header: Header, left: &[u8]) -> bool
 // What stands behind a header with this tag number, whatever its class and its length.
 #[inline(always)]
 #[tactic(auto, unfolding(crate::specs::ExtensionList::wrapper_header, x509_der::specs::Leaves::any_header))]
-fn wrapper_of<'a>(place: &Place<'a>, number: u32) -> Result<(&'a [u8], Header), Err<X509Error>>
-    ensures reads { Gives (λ x. (x.0.now, x.1)) result ((wrapper_header number).read (at place.now)) }
+fn wrapper_of<'a, L: Outside>(
+    place: &Place<'a, L>,
+    number: u32,
+) -> Result<(&'a [u8], Header), Refused<X509Error, L>>
+    ensures reads { GivesAt (λ x. (x.0.now, x.1)) (wrapper_header number) L.adds (at place.now) (outside_of place.now) result }
     ensures marks { (wrapper_header number).marks (at place.now) ≡ true }
     ensures sizes { IfOk result (λ x. length x.0.now + 2 ≤ length (at place.now)) }
 {
     match place.header() {
         Ok((inner, header)) if header.tag.0 == number => Ok((inner, header)),
-        _ => Err(Err::Error(X509Error::InvalidExtensions)),
+        _ => Err(place.refuse(Err::Error(X509Error::InvalidExtensions))),
     }
 }

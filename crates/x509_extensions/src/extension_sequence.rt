@@ -1,6 +1,6 @@
 //! A SEQUENCE of extensions as a field: of an entry of a list, or of a request.
 
-ghost use Rattle.std.specs.Prelude.{◌+◌, List, true};
+ghost use Rattle.std.specs.Prelude.{List, true};
 ghost use Rattle.x509_der.specs.Primitives.{is_constructed};
 ghost use Rattle.x509_der.specs.Reading.{strict};
 ghost use Rattle.x509_extensions.specs.Extension.{Extension};
@@ -9,8 +9,8 @@ ghost use Rattle.x509_extensions.specs.ExtensionList.{extensions_of, extensions,
 use crate::extension::X509Extension;
 use crate::parser::X509ExtensionParser;
 use std::alloc::Global;
-use x509_der::{Err, FromDer, Place, Sequence, Tries};
-use x509_fields::{X509Error, sequence_at};
+use x509_der::{FromDer, Outside, Place, Refused, Sequence, Tries};
+use x509_fields::X509Error;
 
 /// Extensions, with what their values say (RFC 5280, section 4.1.2.9).
 ///
@@ -44,14 +44,12 @@ impl<'a> FromDer<'a, X509Error> for ExtensionSequence<'a> {
 
     ghost takes_memory = { true };
 
-    #[tactic(auto, unfolding(crate::specs::ExtensionList::extensions), using(x509_der::proofs::Marking::marks_of_readers))]
-    fn read_at(
+    fn read_at<L: Outside>(
         alloc: Global,
         tries: &mut Tries,
-        place: &Place<'a>,
-    ) -> Result<(Self, bool), Err<X509Error>> {
-        let contents = sequence_at(place)?;
-        let (list, plain) = X509ExtensionParser::new().read_to_end(alloc, tries, contents)?;
+        place: &Place<'a, L>,
+    ) -> Result<(Self, bool), Refused<X509Error, L>> {
+        let (list, plain) = X509ExtensionParser::new().list_at(alloc, tries, place)?;
         Ok((ExtensionSequence { list }, plain))
     }
 

@@ -2,18 +2,18 @@
 
 ghost use Rattle.std.specs.Prelude.{◌≡◌, ◌≤◌, ◌+◌, ◌-◌, ◌*◌, true, false, IfOk, IsErr, length};
 ghost use Rattle.x509_der.specs.Looks.{behind, is_element};
-ghost use Rattle.x509_der.specs.Place.{at};
+ghost use Rattle.x509_der.specs.Place.{at, outside_of};
 ghost use Rattle.x509_der.specs.Primitives.{is_constructed};
-ghost use Rattle.x509_der.specs.Promises.{Answers, OneTryEach, ReadsAt, ReadsExactly, TriesBounded, IsForeign};
+ghost use Rattle.x509_der.specs.Promises.{Answers, OneTryEach, ReadsAt, ReadsExactly, ReadsWhere, TriesBounded, IsForeign, GivesAt};
 ghost use Rattle.x509_der.specs.Leaves.{sequence as leaf_sequence};
-ghost use Rattle.x509_der.specs.Reading.{Gives, AddsAtLeast, strict};
+ghost use Rattle.x509_der.specs.Reading.{AddsAtLeast, strict};
 ghost use Rattle.x509_fields.specs.Errors.{is_x509_memory};
 ghost use Rattle.x509_extensions.specs.Extension.{extension_of, extension_heads, envelope_of, envelope_fields, envelope, extension};
 
 use crate::extension::X509Extension;
 use crate::parsed::{ParsedExtension, parse_value};
 use std::alloc::Global;
-use x509_der::{Err, Fields, Oid, Place, Tries};
+use x509_der::{Err, Fields, Located, Oid, Outside, Place, Refused, Tries, Window, named};
 use x509_fields::{X509Error, X509Result, sequence_at};
 
 /// Reads extensions, with or without what their values say.
@@ -66,6 +66,27 @@ impl X509ExtensionParser {
         self.read(alloc, &mut Tries::new(), i)
     }
 
+    /// Reads the extension at the front of the bytes as [`X509ExtensionParser::parse`] does; a refusal has the offset, in octets
+    /// from the front, of the place at which the grammar refuses the bytes.
+    ///
+    /// # Errors
+    ///
+    /// As [`X509ExtensionParser::parse`], with their offset; want of memory has none.
+    pub fn parse_located<'a>(
+        &self,
+        alloc: Global,
+        i: &'a [u8],
+    ) -> Result<(&'a [u8], X509Extension<'a>), Located<X509Error>>
+        ensures { ReadsWhere is_x509_memory true (λ x. (x.0.now, extension_of x.1)) (extension self.now.deep_parse_extensions) i.now result }
+    {
+        let mut tries = Tries::new();
+        let place = Place::inside(&mut tries, &Window::counted(i));
+        match self.read_at(alloc, &mut tries, &place) {
+            Ok((extension, _)) => Ok((place.rest(), extension)),
+            Err(e) => Err(e.located(i.len())),
+        }
+    }
+
     /// The same, and counts the headers that it tries: at most eight for each byte; a shallow reader, for each byte
     /// outside the value.
     pub fn read<'a>(
@@ -97,20 +118,22 @@ impl X509ExtensionParser {
         ensures shallow { self.now.deep_parse_extensions ≡ false → IfOk result (λ x. tries.new + 8 + 8 * length x.1.value.now + 8 * length x.0.now ≤ tries.old + 8 * length i.now) }
     {
         let place = Place::look(tries, i);
-        let (extension, plain) = self.read_at(alloc, tries, &place)?;
-        Ok((place.rest(), extension, plain))
+        match self.read_at(alloc, tries, &place) {
+            Ok((extension, plain)) => Ok((place.rest(), extension, plain)),
+            Err(e) => Err(e.why),
+        }
     }
 
     /// Reads the extension at a place that was looked at.
     #[inline(always)]
     #[tactic(auto, unfolding(crate::specs::Extension::extension))]
-    pub fn read_at<'a>(
+    pub fn read_at<'a, L: Outside>(
         &self,
         alloc: Global,
         tries: &mut Tries,
-        place: &Place<'a>,
-    ) -> Result<(X509Extension<'a>, bool), Err<X509Error>>
-        ensures reads { ReadsAt is_x509_memory true strict (is_constructed 16) extension_heads extension_of (extension self.now.deep_parse_extensions) (at place.now) tries.old tries.new result }
+        place: &Place<'a, L>,
+    ) -> Result<(X509Extension<'a>, bool), Refused<X509Error, L>>
+        ensures reads { ReadsAt is_x509_memory true strict (is_constructed 16) extension_heads extension_of (extension self.now.deep_parse_extensions) L.adds (at place.now) (outside_of place.now) tries.old tries.new result }
         ensures shallow { self.now.deep_parse_extensions ≡ false → IfOk result (λ x. tries.new + 9 + 8 * length x.0.value.now + 8 * length (behind (at place.now)) ≤ tries.old + 8 * length (at place.now)) }
     {
         let (envelope, envelope_plain) = read_envelope(tries, place)?;
@@ -128,7 +151,7 @@ impl X509ExtensionParser {
             };
             return Ok((extension, envelope_plain));
         }
-        let (parsed_extension, value_plain) = parse_value(alloc, tries, &oid, value)?;
+        let (parsed_extension, value_plain) = place.judge(parse_value(alloc, tries, &oid, value))?;
         let extension = X509Extension {
             oid,
             critical,
@@ -150,11 +173,11 @@ pub(crate) struct Envelope<'a> {
 // The three fields of an extension, with the refusals of each.
 #[inline(always)]
 #[tactic(auto, unfolding(crate::specs::Extension::envelope_fields), using(x509_der::proofs::Steps::marks_of_fields))]
-fn read_envelope_fields<'a>(
+fn read_envelope_fields<'a, L: Outside>(
     tries: &mut Tries,
-    place: &Place<'a>,
-) -> Result<(Envelope<'a>, bool), Err<X509Error>>
-    ensures reads { Gives (λ x. (behind (at place.now), envelope_of x.0)) result (envelope_fields.read (at place.now)) }
+    place: &Place<'a, L>,
+) -> Result<(Envelope<'a>, bool), Refused<X509Error, L>>
+    ensures reads { GivesAt (λ x. (behind (at place.now), envelope_of x.0)) envelope_fields L.adds (at place.now) (outside_of place.now) result }
     ensures marks { IfOk result (λ x. x.1 ≡ envelope_fields.marks (at place.now)) }
     ensures grows { tries.old ≤ tries.new }
     ensures count { IfOk result (λ x. tries.new + 9 + 8 * length x.0.value.now + 8 * length (behind (at place.now)) ≤ tries.old + 8 * length (at place.now)) }
@@ -166,7 +189,7 @@ fn read_envelope_fields<'a>(
     ensures there { IfOk result (λ _. is_element (at place.now) ≡ true) }
 {
     let contents = sequence_at(place)?;
-    let fields = Fields::of(tries, contents);
+    let fields = Fields::of(tries, &contents);
     let (fields, oid) = fields.oid(tries).map_err(|e| e.convert())?;
     let (fields, critical) = fields.soft_bool_loose(tries);
     let value = fields.place.octets().map_err(|e| e.convert())?;
@@ -181,11 +204,11 @@ fn read_envelope_fields<'a>(
 // The same, with one refusal for all.
 #[inline(always)]
 #[tactic(auto, unfolding(crate::specs::Extension::envelope))]
-fn read_envelope<'a>(
+fn read_envelope<'a, L: Outside>(
     tries: &mut Tries,
-    place: &Place<'a>,
-) -> Result<(Envelope<'a>, bool), Err<X509Error>>
-    ensures reads { Gives (λ x. (behind (at place.now), envelope_of x.0)) result (envelope.read (at place.now)) }
+    place: &Place<'a, L>,
+) -> Result<(Envelope<'a>, bool), Refused<X509Error, L>>
+    ensures reads { GivesAt (λ x. (behind (at place.now), envelope_of x.0)) envelope L.adds (at place.now) (outside_of place.now) result }
     ensures marks { IfOk result (λ x. x.1 ≡ envelope.marks (at place.now)) }
     ensures grows { tries.old ≤ tries.new }
     ensures count { IfOk result (λ x. tries.new + 9 + 8 * length x.0.value.now + 8 * length (behind (at place.now)) ≤ tries.old + 8 * length (at place.now)) }
@@ -194,5 +217,8 @@ fn read_envelope<'a>(
     ensures least { IfOk result (λ x. AddsAtLeast (extension_heads (envelope_of x.0) - 1) tries.old tries.new) }
     ensures there { IfOk result (λ _. is_element (at place.now) ≡ true) }
 {
-    read_envelope_fields(tries, place).map_err(|_| Err::Error(X509Error::InvalidExtensions))
+    Ok(named!(
+        read_envelope_fields(tries, place),
+        X509Error::InvalidExtensions
+    ))
 }

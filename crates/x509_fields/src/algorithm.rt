@@ -1,6 +1,6 @@
 //! Algorithms.
 
-ghost use Rattle.std.specs.Prelude.{◌≡◌, Option, false};
+ghost use Rattle.std.specs.Prelude.{◌≡◌, false};
 ghost use Rattle.x509_der.specs.Oid.{oid_bytes};
 ghost use Rattle.x509_der.specs.Primitives.{is_constructed};
 ghost use Rattle.x509_der.specs.Leaves.{sequence};
@@ -11,7 +11,7 @@ ghost use Rattle.x509_fields.specs.Algorithm.{Algorithm, algorithm_of, algorithm
 use crate::error::X509Error;
 use crate::structure::sequence_at;
 use std::alloc::Global;
-use x509_der::{Any, Err, Fields, FromDer, Oid, Place, Tries};
+use x509_der::{Any, Fields, FromDer, Oid, Outside, Place, Refused, Tries, named};
 
 /// An algorithm and its parameters, where they stand (RFC 5280, section 4.1.1.2).
 ///
@@ -77,16 +77,14 @@ impl<'a> FromDer<'a, X509Error> for AlgorithmIdentifier<'a> {
 
     #[inline(always)]
     #[tactic(auto, unfolding(crate::specs::Algorithm::algorithm), using(x509_der::proofs::Marking::marks_of_readers))]
-    fn read_at(
+    fn read_at<L: Outside>(
         _alloc: Global,
         tries: &mut Tries,
-        place: &Place<'a>,
-    ) -> Result<(Self, bool), Err<X509Error>> {
+        place: &Place<'a, L>,
+    ) -> Result<(Self, bool), Refused<X509Error, L>> {
         let contents = sequence_at(place)?;
-        let fields = Fields::of(tries, contents);
-        let (fields, algorithm) = fields
-            .oid(tries)
-            .map_err(|_| Err::Error(X509Error::InvalidAlgorithmIdentifier))?;
+        let fields = Fields::of(tries, &contents);
+        let (fields, algorithm) = named!(fields.oid(tries), X509Error::InvalidAlgorithmIdentifier);
         let (parameters, plain) = match fields.place.any() {
             Ok(any) => (Some(any), fields.ends_here()),
             Err(_) => (None, fields.are_plain()),

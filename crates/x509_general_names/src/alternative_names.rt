@@ -1,10 +1,10 @@
 //! Other names of a subject and of an issuer.
 
 ghost use Rattle.std.specs.Prelude.{◌≤◌, ◌+◌, List, [], map, true};
-ghost use Rattle.x509_der.specs.Place.{at};
+ghost use Rattle.x509_der.specs.Place.{at, outside_of, outside_in};
 ghost use Rattle.x509_der.specs.Primitives.{is_constructed};
-ghost use Rattle.x509_der.specs.Promises.{ReadsAt};
-ghost use Rattle.x509_der.specs.Reading.{Gives, strict};
+ghost use Rattle.x509_der.specs.Promises.{ReadsAt, GivesAt};
+ghost use Rattle.x509_der.specs.Reading.{strict};
 ghost use Rattle.x509_fields.specs.Errors.{is_x509_memory};
 ghost use Rattle.x509_general_names.specs.GeneralName.{GeneralNameValue, general_name_of};
 ghost use Rattle.x509_general_names.specs.AlternativeNames.{subject_names_of, issuer_names_of, end_of_names, general_names, general_names_heads};
@@ -12,7 +12,9 @@ ghost use Rattle.x509_general_names.specs.AlternativeNamesLaws.{general_names_la
 
 use crate::general_name::{GeneralName, context_at};
 use std::alloc::Global;
-use x509_der::{BerError, Err, ErrorKind, FromDer, Place, Sequence, Tries, read_run};
+use x509_der::{
+    BerError, Err, ErrorKind, FromDer, Outside, Place, Refused, Sequence, Tries, Window, read_run,
+};
 use x509_fields::{TryClone, X509Error, sequence_at};
 
 /// Other names of the subject (RFC 5280, section 4.2.1.6).
@@ -49,11 +51,11 @@ impl<'a> FromDer<'a, X509Error> for SubjectAlternativeName<'a> {
 
     ghost takes_memory = { true };
 
-    fn read_at(
+    fn read_at<L: Outside>(
         alloc: Global,
         tries: &mut Tries,
-        place: &Place<'a>,
-    ) -> Result<(Self, bool), Err<X509Error>> {
+        place: &Place<'a, L>,
+    ) -> Result<(Self, bool), Refused<X509Error, L>> {
         let (general_names, plain) = names_at(alloc, tries, place)?;
         Ok((SubjectAlternativeName { general_names }, plain))
     }
@@ -100,11 +102,11 @@ impl<'a> FromDer<'a, X509Error> for IssuerAlternativeName<'a> {
 
     ghost takes_memory = { true };
 
-    fn read_at(
+    fn read_at<L: Outside>(
         alloc: Global,
         tries: &mut Tries,
-        place: &Place<'a>,
-    ) -> Result<(Self, bool), Err<X509Error>> {
+        place: &Place<'a, L>,
+    ) -> Result<(Self, bool), Refused<X509Error, L>> {
         let (general_names, plain) = names_at(alloc, tries, place)?;
         Ok((IssuerAlternativeName { general_names }, plain))
     }
@@ -121,23 +123,27 @@ impl TryClone for IssuerAlternativeName<'_> {
 
 // Names in a SEQUENCE that they fill, and their mark.
 #[tactic(auto, unfolding(crate::specs::AlternativeNames::general_names), using(x509_der::proofs::Marking::marks_of_readers, crate::proofs::Ends::end_plain))]
-fn names_at<'a>(
+fn names_at<'a, L: Outside>(
     alloc: Global,
     tries: &mut Tries,
-    place: &Place<'a>,
-) -> Result<(Sequence<GeneralName<'a>>, bool), Err<X509Error>>
-    ensures { ReadsAt is_x509_memory true strict (is_constructed 16) general_names_heads (λ x. map general_name_of x) general_names (at place.now) tries.old tries.new result }
+    place: &Place<'a, L>,
+) -> Result<(Sequence<GeneralName<'a>>, bool), Refused<X509Error, L>>
+    ensures { ReadsAt is_x509_memory true strict (is_constructed 16) general_names_heads (λ x. map general_name_of x) general_names L.adds (at place.now) (outside_of place.now) tries.old tries.new result }
 {
     let contents = sequence_at(place)?;
-    let (rest, names, plain) = read_run(alloc, tries, contents)?;
-    end_of_names(tries, rest)?;
+    let (rest, names, plain) = place.judge(read_run(alloc, tries, contents.bytes()))?;
+    end_of_names(tries, &contents, rest)?;
     Ok((names, plain))
 }
 
 // What stands behind the last name: nothing, or why it is refused.
 #[tactic(auto, unfolding(crate::specs::AlternativeNames::end_of_names))]
-fn end_of_names(tries: &mut Tries, rest: &[u8]) -> Result<(), Err<X509Error>>
-    ensures reads { (names : List GeneralNameValue) → Gives (λ _. ([], names)) result ((end_of_names names).read rest.now) }
+fn end_of_names<'a, L: Outside>(
+    tries: &mut Tries,
+    contents: &Window<'a, L>,
+    rest: &'a [u8],
+) -> Result<(), Refused<X509Error, L>>
+    ensures reads { (names : List GeneralNameValue) → GivesAt (λ _. ([], names)) (end_of_names names) L.adds rest.now (outside_in contents.now) result }
     ensures grows { tries.old ≤ tries.new }
     ensures few { tries.new ≤ tries.old + 1 }
 {
@@ -145,7 +151,15 @@ fn end_of_names(tries: &mut Tries, rest: &[u8]) -> Result<(), Err<X509Error>>
         return Ok(());
     }
     match context_at(&Place::look(tries, rest)) {
-        Err(Err::Error(why)) => Err(Err::Failure(why)),
-        _ => Err(Err::Error(X509Error::Der(BerError::NomError(ErrorKind::Eof)))),
+        Err(
+            Refused {
+                why: Err::Error(why),
+                ..
+            },
+        ) => Err(contents.refuse_at(rest, Err::Failure(why))),
+        _ => Err(contents.refuse_at(
+            rest,
+            Err::Error(X509Error::Der(BerError::NomError(ErrorKind::Eof))),
+        )),
     }
 }

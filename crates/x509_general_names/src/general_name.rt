@@ -1,13 +1,13 @@
 //! General names.
 
-ghost use Rattle.std.specs.Prelude.{◌≡◌, ◌≤◌, ◌+◌, ◌-◌, ◌*◌, Some, None, Ok, IfOk, IfSome, IsErr, length, true};
+ghost use Rattle.std.specs.Prelude.{◌≡◌, ◌≤◌, ◌+◌, ◌-◌, ◌*◌, Some, Ok, IfOk, IfSome, IsErr, length, true};
 ghost use Rattle.std.specs.Option.{is_some};
 ghost use Rattle.x509_der.specs.Hex.{hex_text};
 ghost use Rattle.x509_der.specs.Plan.{reads_inside};
 ghost use Rattle.x509_der.specs.Primitives.{is_context};
 ghost use Rattle.x509_der.specs.Promises.{Answers, IsForeign, ReadsLeaf, option_view};
 ghost use Rattle.x509_der.specs.Looks.{behind};
-ghost use Rattle.x509_der.specs.Place.{at};
+ghost use Rattle.x509_der.specs.Place.{at, outside_of};
 ghost use Rattle.x509_der.specs.Reading.{AddsAtLeast, element_of, strict};
 ghost use Rattle.x509_fields.specs.Errors.{is_x509_memory};
 ghost use Rattle.x509_general_names.specs.Addresses.{IsAddressIn};
@@ -18,7 +18,9 @@ use crate::addresses::ip_address;
 use std::alloc::Global;
 use std::net::IpAddr;
 use std::{fmt, str};
-use x509_der::{Any, BerError, Class, Err, FromDer, HexPairs, Oid, Place, Tag, Tries};
+use x509_der::{
+    Any, BerError, Class, Err, FromDer, HexPairs, Oid, Outside, Place, Refused, Tag, Tries,
+};
 use x509_fields::{TryClone, X509Error, X509Name};
 
 /// A name of one of many kinds (RFC 5280, section 4.2.1.6), told by the number of its tag.
@@ -110,13 +112,13 @@ impl<'a> FromDer<'a, X509Error> for GeneralName<'a> {
     ghost takes_memory = { true };
 
     #[tactic(auto, unfolding(crate::specs::GeneralName::general_name), using(crate::proofs::Elements::context_plain))]
-    fn read_at(
+    fn read_at<L: Outside>(
         alloc: Global,
         tries: &mut Tries,
-        place: &Place<'a>,
-    ) -> Result<(Self, bool), Err<X509Error>> {
+        place: &Place<'a, L>,
+    ) -> Result<(Self, bool), Refused<X509Error, L>> {
         let any = context_at(place)?;
-        named(alloc, tries, any)
+        place.judge(named(alloc, tries, any))
     }
 
     ghost never_memory = { general_name_laws.laws.never_memory };
@@ -143,14 +145,16 @@ impl TryClone for GeneralName<'_> {
 /// The element of context class that stands at a place.
 #[inline(always)]
 #[tactic(auto, unfolding(crate::specs::GeneralName::context_element, x509_der::specs::Leaves::any))]
-pub(crate) fn context_at<'a>(place: &Place<'a>) -> Result<Any<'a>, Err<X509Error>>
-    ensures reads { ReadsLeaf (λ x. element_of x) context_element (at place.now) result }
+pub(crate) fn context_at<'a, L: Outside>(
+    place: &Place<'a, L>,
+) -> Result<Any<'a>, Refused<X509Error, L>>
+    ensures reads { ReadsLeaf (λ x. element_of x) context_element L.adds (at place.now) (outside_of place.now) result }
     ensures sizes { IfOk result (λ x. length (behind (at place.now)) + length (element_of x).contents + 2 ≤ length (at place.now)) }
     ensures foreign { IsForeign strict (λ h. is_context h.class) (at place.now) → IsErr result }
 {
     let any = place.any().map_err(|e| e.convert())?;
     if any.class() != Class::ContextSpecific {
-        return Err(Err::Error(X509Error::Der(BerError::InvalidTag)));
+        return Err(place.refuse(Err::Error(X509Error::Der(BerError::InvalidTag))));
     }
     Ok(any)
 }

@@ -8,7 +8,9 @@ ghost use Rattle.x509_general_names.specs.NameConstraints.{subtree_of, subtrees_
 
 use crate::general_name::GeneralName;
 use std::alloc::Global;
-use x509_der::{Err, ErrorKind, Fields, FromDer, Place, ReadAt, Sequence, Tries, read_run};
+use x509_der::{
+    ErrorKind, Fields, FromDer, Outside, Place, ReadAt, Refused, Sequence, Tries, read_run,
+};
 use x509_fields::{TryClone, X509Error, sequence_at};
 use x509_parts::list_error;
 
@@ -67,13 +69,13 @@ impl<'a> FromDer<'a, X509Error> for NameConstraints<'a> {
     ghost takes_memory = { true };
 
     #[tactic(auto, unfolding(crate::specs::NameConstraints::name_constraints), using(x509_der::proofs::Marking::marks_of_readers))]
-    fn read_at(
+    fn read_at<L: Outside>(
         alloc: Global,
         tries: &mut Tries,
-        place: &Place<'a>,
-    ) -> Result<(Self, bool), Err<X509Error>> {
+        place: &Place<'a, L>,
+    ) -> Result<(Self, bool), Refused<X509Error, L>> {
         let contents = sequence_at(place)?;
-        let fields = Fields::of(tries, contents);
+        let fields = Fields::of(tries, &contents);
         let (fields, permitted_subtrees) = fields.soft_by(&Subtrees { number: 0 }, alloc, tries)?;
         let (fields, excluded_subtrees) = fields.soft_by(&Subtrees { number: 1 }, alloc, tries)?;
         let constraints = NameConstraints {
@@ -117,14 +119,14 @@ impl<'a> FromDer<'a, X509Error> for GeneralSubtree<'a> {
     ghost takes_memory = { true };
 
     #[tactic(auto, unfolding(crate::specs::NameConstraints::general_subtree), using(x509_der::proofs::Marking::marks_of_readers))]
-    fn read_at(
+    fn read_at<L: Outside>(
         alloc: Global,
         tries: &mut Tries,
-        place: &Place<'a>,
-    ) -> Result<(Self, bool), Err<X509Error>> {
+        place: &Place<'a, L>,
+    ) -> Result<(Self, bool), Refused<X509Error, L>> {
         let contents = sequence_at(place)?;
-        let (tail, base, plain) = GeneralName::read_marked(alloc, tries, contents)?;
-        Ok((GeneralSubtree { base }, plain & tail.is_empty()))
+        let (base, plain) = Fields::of(tries, &contents).last(alloc, tries)?;
+        Ok((GeneralSubtree { base }, plain))
     }
 
     ghost never_memory = { general_subtree_laws.laws.never_memory };
@@ -161,19 +163,19 @@ impl<'a> ReadAt<'a, X509Error, Sequence<GeneralSubtree<'a>>> for Subtrees {
     ghost tight = { λ _ _ _. ⊤ };
 
     #[tactic(auto, unfolding(crate::specs::NameConstraints::general_subtrees, x509_der::specs::Leaves::explicit, x509_der::specs::Primitives::contents_at), using(x509_der::proofs::Marking::marks_of_readers))]
-    fn read_at(
+    fn read_at<L: Outside>(
         &self,
         alloc: Global,
         tries: &mut Tries,
-        place: &Place<'a>,
-    ) -> Result<(Sequence<GeneralSubtree<'a>>, bool), Err<X509Error>> {
+        place: &Place<'a, L>,
+    ) -> Result<(Sequence<GeneralSubtree<'a>>, bool), Refused<X509Error, L>> {
         let contents = place.explicit(self.number).map_err(|e| e.convert())?;
-        let (rest, subtrees, plain) = read_run(alloc, tries, contents)?;
+        let (rest, subtrees, plain) = place.judge(read_run(alloc, tries, contents.bytes()))?;
         if subtrees.is_empty() {
-            return Err(list_error(ErrorKind::Many1));
+            return Err(contents.refuse_at(rest, list_error(ErrorKind::Many1)));
         }
         if !rest.is_empty() {
-            return Err(list_error(ErrorKind::Eof));
+            return Err(contents.refuse_at(rest, list_error(ErrorKind::Eof)));
         }
         Ok((subtrees, plain))
     }

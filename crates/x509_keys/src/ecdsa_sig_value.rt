@@ -6,7 +6,7 @@ ghost use Rattle.x509_der.specs.Reading.{strict};
 ghost use Rattle.x509_keys.specs.EcdsaSigValue.{EcdsaValue, ecdsa_value_of, ecdsa_sig_value, ecdsa_value_heads, ecdsa_sig_value_laws};
 
 use std::alloc::Global;
-use x509_der::{BerError, Err, Fields, FromDer, Integer, Place, Tries};
+use x509_der::{BerError, Fields, FromDer, Integer, Outside, Place, Refused, Tries};
 
 /// The value of an ECDSA signature (RFC 3279, section 2.2.3).
 ///
@@ -44,13 +44,13 @@ impl<'a> FromDer<'a, BerError> for EcdsaSigValue<'a> {
     ghost takes_memory = { false };
 
     #[tactic(auto, unfolding(crate::specs::EcdsaSigValue::ecdsa_sig_value), using(x509_der::proofs::Marking::marks_of_readers))]
-    fn read_at(
+    fn read_at<L: Outside>(
         _alloc: Global,
         tries: &mut Tries,
-        place: &Place<'a>,
-    ) -> Result<(Self, bool), Err<BerError>> {
+        place: &Place<'a, L>,
+    ) -> Result<(Self, bool), Refused<BerError, L>> {
         let contents = place.sequence()?;
-        let fields = Fields::of(tries, contents);
+        let fields = Fields::of(tries, &contents);
         let (fields, r) = fields.integer(tries)?;
         let s = fields.place.integer()?;
         Ok((EcdsaSigValue { r, s }, fields.ends_here()))

@@ -10,7 +10,7 @@ ghost use Rattle.x509_fields.specs.Fields.{lifted};
 ghost use Rattle.x509_keys.specs.Parameters.{tagged_algorithm, tagged_u32};
 
 use crate::public_key::first_place;
-use x509_der::{Class, Err, Fields, Header, Tries};
+use x509_der::{Class, Err, Fields, Header, Nowhere, Tries};
 use x509_fields::{AlgorithmIdentifier, X509Error, sequence_at};
 
 /// The algorithm that stands first in these bytes (RFC 5280, section 4.1.1.2).
@@ -20,10 +20,11 @@ fn first_algorithm<'a>(bytes: &'a [u8]) -> Result<AlgorithmIdentifier<'a>, Err<X
 {
     let contents = sequence_at(&first_place(bytes))?;
     let mut tries = Tries::new();
-    let fields = Fields::of(&mut tries, contents);
-    let (fields, algorithm) = fields
-        .oid(&mut tries)
-        .map_err(|_| Err::Error(X509Error::InvalidAlgorithmIdentifier))?;
+    let fields = Fields::of(&mut tries, &contents);
+    let (fields, algorithm) = match fields.oid(&mut tries) {
+        Ok((fields, algorithm)) => (fields, algorithm),
+        Err(_) => return Err(Err::Error(X509Error::InvalidAlgorithmIdentifier)),
+    };
     let parameters = match fields.place.any() {
         Ok(any) => Some(any),
         Err(_) => None,
@@ -38,7 +39,10 @@ fn first_algorithm<'a>(bytes: &'a [u8]) -> Result<AlgorithmIdentifier<'a>, Err<X
 fn first_u32(bytes: &[u8]) -> Result<u32, Err<X509Error>>
     ensures { Gives (λ x. (behind bytes.now, x)) result ((lifted u32).read bytes.now) }
 {
-    first_place(bytes).u32().map_err(|e| e.convert())
+    match first_place(bytes).u32() {
+        Ok(number) => Ok(number),
+        Err(e) => Err(e.why.convert()),
+    }
 }
 
 /// The algorithm in the explicit tag of this number, absent where nothing is left or where an element of another class or
@@ -46,18 +50,18 @@ fn first_u32(bytes: &[u8]) -> Result<u32, Err<X509Error>>
 #[inline(always)]
 #[tactic(auto, unfolding(crate::specs::Parameters::tagged_algorithm))]
 pub(crate) fn tagged_algorithm_at<'a>(
-    fields: &Fields<'a>,
+    fields: &Fields<'a, Nowhere>,
     tries: &mut Tries,
     number: u32,
-) -> Result<(Fields<'a>, Option<AlgorithmIdentifier<'a>>), Err<X509Error>>
+) -> Result<(Fields<'a, Nowhere>, Option<AlgorithmIdentifier<'a>>), Err<X509Error>>
     ensures { Gives (λ x. (next_of x.0, option_view algorithm_of x.1)) result ((tagged_algorithm number).read (next_of fields.now)) }
 {
     if fields.are_over() {
-        return Ok((*fields, None));
+        return Ok((fields.same(), None));
     }
     let header = match fields.place.any() {
         Ok(any) => any.header(),
-        Err(e) => return Err(e.convert()),
+        Err(e) => return Err(e.why.convert()),
     };
     match header {
         Header {
@@ -65,9 +69,12 @@ pub(crate) fn tagged_algorithm_at<'a>(
             tag,
             ..
         } if tag.0 == number => {}
-        _ => return Ok((*fields, None)),
+        _ => return Ok((fields.same(), None)),
     }
-    let contents = fields.place.explicit(number).map_err(|e| e.convert())?;
+    let contents = match fields.place.explicit(number) {
+        Ok(contents) => contents.bytes(),
+        Err(e) => return Err(e.why.convert()),
+    };
     let algorithm = first_algorithm(contents)?;
     Ok((fields.behind(tries, true), Some(algorithm)))
 }
@@ -77,18 +84,18 @@ pub(crate) fn tagged_algorithm_at<'a>(
 #[inline(always)]
 #[tactic(auto, unfolding(crate::specs::Parameters::tagged_u32))]
 pub(crate) fn tagged_u32_at<'a>(
-    fields: &Fields<'a>,
+    fields: &Fields<'a, Nowhere>,
     tries: &mut Tries,
     number: u32,
-) -> Result<(Fields<'a>, Option<u32>), Err<X509Error>>
+) -> Result<(Fields<'a, Nowhere>, Option<u32>), Err<X509Error>>
     ensures { Gives (λ x. (next_of x.0, x.1)) result ((tagged_u32 number).read (next_of fields.now)) }
 {
     if fields.are_over() {
-        return Ok((*fields, None));
+        return Ok((fields.same(), None));
     }
     let header = match fields.place.any() {
         Ok(any) => any.header(),
-        Err(e) => return Err(e.convert()),
+        Err(e) => return Err(e.why.convert()),
     };
     match header {
         Header {
@@ -96,9 +103,12 @@ pub(crate) fn tagged_u32_at<'a>(
             tag,
             ..
         } if tag.0 == number => {}
-        _ => return Ok((*fields, None)),
+        _ => return Ok((fields.same(), None)),
     }
-    let contents = fields.place.explicit(number).map_err(|e| e.convert())?;
+    let contents = match fields.place.explicit(number) {
+        Ok(contents) => contents.bytes(),
+        Err(e) => return Err(e.why.convert()),
+    };
     let value = first_u32(contents)?;
     Ok((fields.behind(tries, true), Some(value)))
 }

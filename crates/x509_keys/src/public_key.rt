@@ -9,7 +9,7 @@ use crate::ec_point::ECPoint;
 use crate::key_kind::KeyKind;
 use crate::rsa_public_key::{RSAPublicKey, rsa_key_at};
 use crate::sizes::bits_in;
-use x509_der::{Place, Tries};
+use x509_der::{Nowhere, Place, Tries};
 use x509_fields::X509Error;
 
 /// A public key, by its algorithm (RFC 5280, section 4.1.2.7).
@@ -81,7 +81,7 @@ pub(crate) fn read_key<'a>(kind: KeyKind, bits: &'a [u8]) -> Result<PublicKey<'a
 
 /// The place where the bytes begin.
 #[inline(always)]
-pub(crate) fn first_place(bytes: &[u8]) -> Place<'_>
+pub(crate) fn first_place(bytes: &[u8]) -> Place<'_, Nowhere>
     ensures { at result ≡ bytes.now }
 {
     Place::look(&mut Tries::new(), bytes)

@@ -12,7 +12,7 @@ use crate::key_algorithm::{KeyAlgorithm, NamedCurve};
 use crate::key_kind::KeyKind;
 use crate::public_key::{PublicKey, parse_key, read_key};
 use std::alloc::Global;
-use x509_der::{Any, BitString, Class, Err, Fields, FromDer, Place, Tries};
+use x509_der::{Any, BitString, Class, Fields, FromDer, Outside, Place, Refused, Tries, named};
 use x509_fields::{AlgorithmIdentifier, X509Error, sequence_at};
 
 /// A public key and its algorithm (RFC 5280, section 4.1.2.7).
@@ -135,18 +135,15 @@ impl<'a> FromDer<'a, X509Error> for SubjectPublicKeyInfo<'a> {
 
     #[inline(always)]
     #[tactic(auto, unfolding(crate::specs::KeyInfo::key_info), using(x509_der::proofs::Marking::marks_of_readers))]
-    fn read_at(
+    fn read_at<L: Outside>(
         alloc: Global,
         tries: &mut Tries,
-        place: &Place<'a>,
-    ) -> Result<(Self, bool), Err<X509Error>> {
+        place: &Place<'a, L>,
+    ) -> Result<(Self, bool), Refused<X509Error, L>> {
         let contents = sequence_at(place)?;
-        let fields = Fields::of(tries, contents);
+        let fields = Fields::of(tries, &contents);
         let (fields, algorithm) = fields.field(alloc, tries)?;
-        let subject_public_key = fields
-            .place
-            .bits()
-            .map_err(|_| Err::Error(X509Error::InvalidSPKI))?;
+        let subject_public_key = named!(fields.place.bits(), X509Error::InvalidSPKI);
         let tail = fields.place.rest();
         let bytes = place.bytes();
         let raw = &bytes[..bytes.len() - (tail.len() + place.rest().len())];

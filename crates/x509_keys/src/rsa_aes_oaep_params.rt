@@ -11,7 +11,7 @@ ghost use Rattle.x509_keys.specs.RsaAesOaepParams.{oaep_fields, oaep_of, p_speci
 
 use crate::mask_gen_algorithm::{MaskGenAlgorithm, hash_or_default, mask_gen_or_default};
 use crate::parameters::tagged_algorithm_at;
-use x509_der::{Any, BerError, Fields, Oid, Tag, Tries};
+use x509_der::{Any, BerError, Fields, Oid, Tag, Tries, Window};
 use x509_fields::{AlgorithmIdentifier, X509Error};
 
 /// id-pSpecified, 1.2.840.113549.1.1.9 (RFC 4055, section 4.1): the contents of the identifier.
@@ -130,7 +130,7 @@ fn read_fields<'a>(tag: Tag, contents: &'a [u8]) -> Result<RsaAesOaepParams<'a>,
         return Err(X509Error::Der(BerError::InvalidTag));
     }
     let mut tries = Tries::new();
-    let fields = Fields::of(&mut tries, contents);
+    let fields = Fields::of(&mut tries, &Window::whole(contents));
     let (fields, hash_algorithm) = tagged_algorithm_at(&fields, &mut tries, 0)?;
     let (fields, mask_gen_algorithm) = tagged_algorithm_at(&fields, &mut tries, 1)?;
     let (_, p_source_alg) = tagged_algorithm_at(&fields, &mut tries, 2)?;

@@ -3,7 +3,7 @@
 ghost use Rattle.std.specs.Prelude.{◌≡◌, ◌≤◌, false, length};
 ghost use Rattle.std.specs.Int.Digits.{number_from_digits};
 ghost use Rattle.x509_der.specs.Primitives.{is_constructed};
-ghost use Rattle.x509_der.specs.Place.{at};
+ghost use Rattle.x509_der.specs.Place.{at, outside_of};
 ghost use Rattle.x509_der.specs.Promises.{ReadsAt};
 ghost use Rattle.x509_der.specs.Reading.{strict};
 ghost use Rattle.x509_fields.specs.Errors.{is_x509_memory};
@@ -11,7 +11,7 @@ ghost use Rattle.x509_keys.specs.RsaPublicKey.{RsaKey, rsa_key_of, rsa_public_ke
 
 use crate::sizes::bits_in;
 use std::alloc::Global;
-use x509_der::{Err, Fields, FromDer, Place, Tries};
+use x509_der::{Fields, FromDer, Outside, Place, Refused, Tries, named};
 use x509_fields::X509Error;
 
 /// An RSA public key (RFC 8017, A.1.1).
@@ -77,23 +77,16 @@ fn number_of(octets: &[u8]) -> u64
 /// Reads the key at a place that was looked at, and tells whether it stands plainly.
 #[inline(always)]
 #[tactic(auto, unfolding(crate::specs::RsaPublicKey::rsa_public_key, crate::specs::RsaPublicKey::two_numbers), using(x509_der::proofs::Marking::marks_of_readers))]
-pub(crate) fn rsa_key_at<'a>(
+pub(crate) fn rsa_key_at<'a, L: Outside>(
     tries: &mut Tries,
-    place: &Place<'a>,
-) -> Result<(RSAPublicKey<'a>, bool), Err<X509Error>>
-    ensures { ReadsAt is_x509_memory false strict (is_constructed 16) rsa_key_heads rsa_key_of rsa_public_key (at place.now) tries.old tries.new result }
+    place: &Place<'a, L>,
+) -> Result<(RSAPublicKey<'a>, bool), Refused<X509Error, L>>
+    ensures { ReadsAt is_x509_memory false strict (is_constructed 16) rsa_key_heads rsa_key_of rsa_public_key L.adds (at place.now) (outside_of place.now) tries.old tries.new result }
 {
-    let Ok(contents) = place.sequence() else {
-        return Err(Err::Error(X509Error::InvalidSPKI));
-    };
-    let fields = Fields::of(tries, contents);
-    let (fields, modulus) = fields
-        .integer(tries)
-        .map_err(|_| Err::Error(X509Error::InvalidSPKI))?;
-    let exponent = fields
-        .place
-        .integer()
-        .map_err(|_| Err::Error(X509Error::InvalidSPKI))?;
+    let contents = named!(place.sequence(), X509Error::InvalidSPKI);
+    let fields = Fields::of(tries, &contents);
+    let (fields, modulus) = named!(fields.integer(tries), X509Error::InvalidSPKI);
+    let exponent = named!(fields.place.integer(), X509Error::InvalidSPKI);
     let key = RSAPublicKey {
         modulus: modulus.as_bytes(),
         exponent: exponent.as_bytes(),
@@ -120,11 +113,11 @@ impl<'a> FromDer<'a, X509Error> for RSAPublicKey<'a> {
 
     ghost takes_memory = { false };
 
-    fn read_at(
+    fn read_at<L: Outside>(
         _alloc: Global,
         tries: &mut Tries,
-        place: &Place<'a>,
-    ) -> Result<(Self, bool), Err<X509Error>> {
+        place: &Place<'a, L>,
+    ) -> Result<(Self, bool), Refused<X509Error, L>> {
         rsa_key_at(tries, place)
     }
 

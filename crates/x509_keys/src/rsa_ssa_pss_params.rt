@@ -11,7 +11,7 @@ ghost use Rattle.x509_keys.specs.RsaSsaPssParams.{default_salt_length, default_t
 
 use crate::mask_gen_algorithm::{MaskGenAlgorithm, hash_or_default, mask_gen_or_default};
 use crate::parameters::{tagged_algorithm_at, tagged_u32_at};
-use x509_der::{Any, BerError, Fields, Oid, Tag, Tries};
+use x509_der::{Any, BerError, Fields, Oid, Tag, Tries, Window};
 use x509_fields::{AlgorithmIdentifier, X509Error};
 
 /// The parameters of RSASSA-PSS (RFC 4055, section 3.1).
@@ -127,7 +127,7 @@ fn read_fields<'a>(tag: Tag, contents: &'a [u8]) -> Result<RsaSsaPssParams<'a>, 
         return Err(X509Error::Der(BerError::InvalidTag));
     }
     let mut tries = Tries::new();
-    let fields = Fields::of(&mut tries, contents);
+    let fields = Fields::of(&mut tries, &Window::whole(contents));
     let (fields, hash_algorithm) = tagged_algorithm_at(&fields, &mut tries, 0)?;
     let (fields, mask_gen_algorithm) = tagged_algorithm_at(&fields, &mut tries, 1)?;
     let (fields, salt_length) = tagged_u32_at(&fields, &mut tries, 2)?;

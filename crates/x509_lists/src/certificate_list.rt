@@ -11,7 +11,7 @@ ghost use Rattle.x509_lists.specs.CertificateList.{list_of, list_heads, certific
 use crate::revoked_iter::RevokedIter;
 use crate::tbs_cert_list::TbsCertList;
 use std::alloc::Global;
-use x509_der::{BitString, Err, FromDer, Place, Tries};
+use x509_der::{BitString, FromDer, Outside, Place, Refused, Tries, ok};
 use x509_extensions::X509Extension;
 use x509_fields::{ASN1Time, AlgorithmIdentifier, TryClone, X509Error, X509Name, X509Version};
 use x509_signed::{Signed, read_signed};
@@ -114,11 +114,11 @@ impl<'a> FromDer<'a, X509Error> for CertificateRevocationList<'a> {
     ghost takes_memory = { true };
 
     #[tactic(auto, unfolding(crate::specs::CertificateList::certificate_list))]
-    fn read_at(
+    fn read_at<L: Outside>(
         alloc: Global,
         tries: &mut Tries,
-        place: &Place<'a>,
-    ) -> Result<(Self, bool), Err<X509Error>> {
+        place: &Place<'a, L>,
+    ) -> Result<(Self, bool), Refused<X509Error, L>> {
         let (
             Signed {
                 tbs,
@@ -127,10 +127,7 @@ impl<'a> FromDer<'a, X509Error> for CertificateRevocationList<'a> {
                 raw,
             },
             plain,
-        ) = match read_signed(alloc, tries, place) {
-            Ok(read) => read,
-            Err(e) => return Err(e),
-        };
+        ) = ok!(read_signed(alloc, tries, place));
         let list = CertificateRevocationList {
             tbs_cert_list: tbs,
             signature_algorithm,

@@ -16,7 +16,10 @@ mod tbs_cert_list;
 
 pub use certificate_list::CertificateRevocationList;
 pub use laws::grammar_laws;
-pub use parsing::{parse_crl_der, parse_x509_crl, parse_x509_crl_marked, parse_x509_crl_strict};
+pub use parsing::{
+    parse_crl_der, parse_x509_crl, parse_x509_crl_located, parse_x509_crl_marked,
+    parse_x509_crl_strict,
+};
 pub use revoked_certificate::RevokedCertificate;
 pub use revoked_iter::RevokedIter;
 pub use tbs_cert_list::TbsCertList;

@@ -1,26 +1,27 @@
 //! When the next list comes.
 
 ghost use Rattle.std.specs.Prelude.{◌≡◌, ◌≤◌, ◌+◌, ◌-◌, ◌*◌, ◌&&◌, false, IfOk, min, length};
-ghost use Rattle.x509_der.specs.Fields.{next_of, plain_in};
-ghost use Rattle.x509_der.specs.Promises.{Answers, option_view, option_heads};
+ghost use Rattle.x509_der.specs.Fields.{next_of, plain_in, outer_of};
+ghost use Rattle.x509_der.specs.Promises.{option_view, option_heads, AnswersAt};
 ghost use Rattle.x509_der.specs.Reading.{AddsAtLeast};
 ghost use Rattle.x509_fields.specs.Errors.{is_x509_memory};
 ghost use Rattle.x509_fields.specs.Times.{time_of};
 ghost use Rattle.x509_lists.specs.NextUpdate.{next_update};
 
 use std::alloc::Global;
-use x509_der::{Class, Err, Fields, Header, Tag, Tries};
+use x509_der::{Class, Err, Fields, Header, Outside, Refused, Tag, Tries};
 use x509_fields::{ASN1Time, X509Error};
 
 /// When the next list comes (RFC 5280, section 5.1.2.5), absent where the header of another element than a time stands next.
 #[inline(always)]
 #[tactic(auto, unfolding(crate::specs::NextUpdate::next_update), using(x509_der::proofs::Marking::marks_of_readers))]
-pub(crate) fn read_next_update<'a>(
+pub(crate) fn read_next_update<'a, L: Outside>(
     alloc: Global,
     tries: &mut Tries,
-    fields: &Fields<'a>,
-) -> Result<(Fields<'a>, Option<ASN1Time>), Err<X509Error>>
-    ensures reads { Answers is_x509_memory false (λ x. (next_of x.0, option_view time_of x.1)) result (next_update.read (next_of fields.now)) }
+    fields: &Fields<'a, L>,
+) -> Result<(Fields<'a, L>, Option<ASN1Time>), Refused<X509Error, L>>
+    ensures reads { AnswersAt is_x509_memory false (λ x. (next_of x.0, option_view time_of x.1)) next_update L.adds (next_of fields.now) (outer_of fields.now) result }
+    ensures outer { IfOk result (λ x. outer_of x.0 ≡ outer_of fields.now) }
     ensures marks { IfOk result (λ x. plain_in x.0 ≡ (plain_in fields.now && next_update.marks (next_of fields.now))) }
     ensures grows { tries.old ≤ tries.new }
     ensures count { tries.new ≤ tries.old + (8 * length (next_of fields.now) - 8) }
@@ -28,11 +29,11 @@ pub(crate) fn read_next_update<'a>(
     ensures least { IfOk result (λ x. AddsAtLeast (option_heads (λ _. 1) (option_view time_of x.1) + min 1 (length (next_of x.0)) - min 1 (length (next_of fields.now))) tries.old tries.new) }
 {
     if fields.are_over() {
-        return Ok((*fields, None));
+        return Ok((fields.same(), None));
     }
     let header = match fields.place.header() {
         Ok((_, header)) => header,
-        Err(_) => return Err(Err::Error(X509Error::InvalidDate)),
+        Err(e) => return Err(e.named(Err::Error(X509Error::InvalidDate))),
     };
     match header {
         Header {
@@ -40,7 +41,7 @@ pub(crate) fn read_next_update<'a>(
             tag: Tag(23 | 24),
             ..
         } => {}
-        _ => return Ok((*fields, None)),
+        _ => return Ok((fields.same(), None)),
     }
     match fields.field(alloc, tries) {
         Ok((fields, time)) => Ok((fields, Some(time))),

@@ -1,13 +1,13 @@
 //! Reading whole lists.
 
 ghost use Rattle.std.specs.Prelude.{◌≡◌, true, IfOk};
-ghost use Rattle.x509_der.specs.Promises.{Answers, ReadsExactly};
+ghost use Rattle.x509_der.specs.Promises.{Answers, ReadsExactly, ReadsWhere};
 ghost use Rattle.x509_fields.specs.Errors.{is_x509_memory};
 ghost use Rattle.x509_lists.specs.CertificateList.{ListStands, list_of, certificate_list, plain_list};
 
 use crate::certificate_list::CertificateRevocationList;
 use std::alloc::Global;
-use x509_der::{Err, FromDer, Tries};
+use x509_der::{Err, FromDer, Located, Tries};
 use x509_fields::{X509Error, X509Result};
 use x509_signed::read_plain;
 
@@ -26,6 +26,25 @@ pub fn parse_x509_crl<'a>(
     ensures stands { IfOk result (λ x. ListStands i.now (list_of x.1) x.0.now) }
 {
     match CertificateRevocationList::from_der(alloc, i) {
+        Ok((rest, list)) => Ok((rest, list)),
+        Err(e) => Err(e),
+    }
+}
+
+/// The same as [`parse_x509_crl`]; a refusal has the offset, in octets from the front, of the place at which the grammar refuses
+/// the bytes.
+///
+/// # Errors
+///
+/// Those of [`parse_x509_crl`], with their offset; want of memory has none.
+pub fn parse_x509_crl_located<'a>(
+    alloc: Global,
+    i: &'a [u8],
+) -> Result<(&'a [u8], CertificateRevocationList<'a>), Located<X509Error>>
+    ensures exact { ReadsWhere is_x509_memory true (λ x. (x.0.now, list_of x.1)) certificate_list i.now result }
+    ensures stands { IfOk result (λ x. ListStands i.now (list_of x.1) x.0.now) }
+{
+    match CertificateRevocationList::from_der_located(alloc, i) {
         Ok((rest, list)) => Ok((rest, list)),
         Err(e) => Err(e),
     }

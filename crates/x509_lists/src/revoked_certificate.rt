@@ -9,7 +9,7 @@ ghost use Rattle.x509_extensions.specs.ExtensionList.{extensions_left};
 ghost use Rattle.x509_lists.specs.RevokedCertificate.{Revoked, revoked_of, revoked, revoked_heads, revoked_laws};
 
 use std::alloc::Global;
-use x509_der::{Err, Fields, FromDer, Place, Sequence, Tries, UnsignedBytes};
+use x509_der::{Fields, FromDer, Outside, Place, Refused, Sequence, Tries, UnsignedBytes, ok};
 use x509_extensions::{ExtensionIter, ExtensionSequence, X509Extension};
 use x509_fields::{ASN1Time, TryClone, X509Error, format_serial, sequence_at};
 use x509_signed::read_serial;
@@ -97,18 +97,15 @@ impl<'a> FromDer<'a, X509Error> for RevokedCertificate<'a> {
 
     #[inline(always)]
     #[tactic(auto, unfolding(crate::specs::RevokedCertificate::revoked), using(x509_der::proofs::Marking::marks_of_readers))]
-    fn read_at(
+    fn read_at<L: Outside>(
         alloc: Global,
         tries: &mut Tries,
-        place: &Place<'a>,
-    ) -> Result<(Self, bool), Err<X509Error>> {
+        place: &Place<'a, L>,
+    ) -> Result<(Self, bool), Refused<X509Error, L>> {
         let contents = sequence_at(place)?;
-        let fields = Fields::of(tries, contents);
+        let fields = Fields::of(tries, &contents);
         let (fields, raw_serial) = read_serial(tries, &fields)?;
-        let (fields, revocation_date) = match fields.field(alloc, tries) {
-            Ok((fields, date)) => (fields, date),
-            Err(e) => return Err(e),
-        };
+        let (fields, revocation_date) = ok!(fields.field(alloc, tries));
         let (fields, sequence) = fields.soft(alloc, tries)?;
         let extensions = match sequence {
             Some(ExtensionSequence { list }) => list,

@@ -8,7 +8,7 @@ ghost use Rattle.x509_lists.specs.RevokedList.{revoked_list_of, revoked_list, re
 
 use crate::revoked_certificate::RevokedCertificate;
 use std::alloc::Global;
-use x509_der::{Err, FromDer, Place, Sequence, Tries, read_to_end};
+use x509_der::{FromDer, Outside, Place, Refused, Sequence, Tries, read_to_end};
 use x509_fields::{X509Error, sequence_at};
 
 /// Certificates that were revoked, in order. All of them are read or none is: where what stands in the SEQUENCE is no such
@@ -38,13 +38,13 @@ impl<'a> FromDer<'a, X509Error> for RevokedList<'a> {
     ghost takes_memory = { true };
 
     #[tactic(auto, unfolding(crate::specs::RevokedList::revoked_list), using(x509_der::proofs::Marking::marks_of_readers))]
-    fn read_at(
+    fn read_at<L: Outside>(
         alloc: Global,
         tries: &mut Tries,
-        place: &Place<'a>,
-    ) -> Result<(Self, bool), Err<X509Error>> {
+        place: &Place<'a, L>,
+    ) -> Result<(Self, bool), Refused<X509Error, L>> {
         let contents = sequence_at(place)?;
-        let (list, plain) = read_to_end(alloc, tries, contents)?;
+        let (list, plain) = read_to_end(alloc, tries, &contents)?;
         Ok((RevokedList { list }, plain))
     }
 

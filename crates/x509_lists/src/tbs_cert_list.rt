@@ -1,6 +1,6 @@
 //! The part of a list that is signed.
 
-ghost use Rattle.std.specs.Prelude.{◌≡◌, ◌-◌, true};
+ghost use Rattle.std.specs.Prelude.{◌≡◌, true};
 ghost use Rattle.x509_der.specs.Primitives.{is_constructed};
 ghost use Rattle.x509_der.specs.Reading.{strict};
 ghost use Rattle.x509_extensions.specs.ExtensionList.{extensions_left};
@@ -11,7 +11,7 @@ use crate::list_version::read_version;
 use crate::revoked_certificate::RevokedCertificate;
 use crate::revoked_list::RevokedList;
 use std::alloc::Global;
-use x509_der::{Err, Fields, FromDer, Place, Sequence, Tries};
+use x509_der::{Fields, FromDer, Outside, Place, Refused, Sequence, Tries};
 use x509_extensions::{ExtensionIter, X509Extension, X509ExtensionParser};
 use x509_fields::{
     ASN1Time, AlgorithmIdentifier, TryClone, X509Error, X509Name, X509Version, sequence_at,
@@ -94,13 +94,13 @@ impl<'a> FromDer<'a, X509Error> for TbsCertList<'a> {
     ghost takes_memory = { true };
 
     #[tactic(auto, unfolding(crate::specs::TbsCertList::tbs_list), using(x509_der::proofs::Marking::marks_of_readers))]
-    fn read_at(
+    fn read_at<L: Outside>(
         alloc: Global,
         tries: &mut Tries,
-        place: &Place<'a>,
-    ) -> Result<(Self, bool), Err<X509Error>> {
+        place: &Place<'a, L>,
+    ) -> Result<(Self, bool), Refused<X509Error, L>> {
         let contents = sequence_at(place)?;
-        let fields = Fields::of(tries, contents);
+        let fields = Fields::of(tries, &contents);
         let (fields, version) = read_version(tries, &fields);
         let (fields, issue) = match read_issue(alloc, tries, &fields) {
             Ok((fields, issue)) => (fields, issue),

@@ -20,7 +20,7 @@ pub struct Changes {
     /// Those that are taken.
     pub taken: u64,
     /// Of each promise, the inputs at which it is broken.
-    pub broken: [u64; 10],
+    pub broken: [u64; 11],
     /// Rows that can't be read.
     pub bad: u64,
 }
@@ -32,7 +32,7 @@ impl Changes {
             rows: 0,
             inputs: 0,
             taken: 0,
-            broken: [0; 10],
+            broken: [0; 11],
             bad: 0,
         }
     }
@@ -83,6 +83,44 @@ fn told(i: &[u8], answer: &str) -> Result<(), Finding> {
     }
 }
 
+// An answer without its count: of a refusal all, of what is taken that it is.
+fn refusal_in(answer: &str) -> &str {
+    if answer.starts_with("ok ") {
+        return "ok";
+    }
+    match answer.split_once(" tries=") {
+        Some((refusal, _)) => refusal,
+        None => answer,
+    }
+}
+
+// What can be seen of the answer of the reader that tells the place of a refusal, beside that of the other.
+fn placed(i: &[u8], answer: &str, located: &str) -> Result<(), Finding> {
+    let broken = Err(Finding::Broken(Promise::Places));
+    let same = match located.split_once(" at=") {
+        Some((refusal, place)) => match place.parse::<usize>() {
+            Ok(at) if at <= i.len() => refusal == refusal_in(answer),
+            _ => return broken,
+        },
+        None => located.starts_with("ok ") && answer.starts_with("ok "),
+    };
+    if same { Ok(()) } else { broken }
+}
+
+// The same, where the word has such a reader.
+fn place_of(word: &str, i: &[u8], answer: &Answer) -> Result<(), Finding> {
+    let mut name = Answer::new(answer.alloc());
+    name.add("where_");
+    name.add(word);
+    name.finish()?;
+    let mut located = Answer::new(answer.alloc());
+    if !answers::answer(name.as_str(), i, &[], &mut located) {
+        return Ok(());
+    }
+    located.finish()?;
+    placed(i, answer.as_str(), located.as_str())
+}
+
 // What is promised of the structure that a word names.
 fn structure(alloc: Global, word: &str, i: &[u8]) -> Result<(), Finding> {
     match word {
@@ -105,6 +143,7 @@ fn structure(alloc: Global, word: &str, i: &[u8]) -> Result<(), Finding> {
 fn seen(word: &str, i: &[u8], answer: &Answer) -> Result<bool, Finding> {
     answer.finish()?;
     told(i, answer.as_str())?;
+    place_of(word, i, answer)?;
     structure(answer.alloc(), word, i)?;
     Ok(answer.as_str().starts_with("ok"))
 }

@@ -36,11 +36,13 @@ pub enum Promise {
     Index,
     /// An element is the one that its identifier and length octets give.
     Element,
+    /// The reader that tells the place of a refusal takes and refuses the same, at an octet of the input or behind its last.
+    Places,
 }
 
 impl Promise {
     /// All of them.
-    pub const ALL: [Promise; 10] = [
+    pub const ALL: [Promise; 11] = [
         Promise::Rest,
         Promise::Tries,
         Promise::Readers,
@@ -51,6 +53,7 @@ impl Promise {
         Promise::Copies,
         Promise::Index,
         Promise::Element,
+        Promise::Places,
     ];
 
     /// What isn't as it should be, in words.
@@ -66,6 +69,7 @@ impl Promise {
             Promise::Copies => "a copy isn't equal",
             Promise::Index => "the index finds another entry",
             Promise::Element => "an element is another than its header says",
+            Promise::Places => "a refusal with its place is another, or lies outside of the input",
         }
     }
 
@@ -82,6 +86,7 @@ impl Promise {
             Promise::Copies => 7,
             Promise::Index => 8,
             Promise::Element => 9,
+            Promise::Places => 10,
         }
     }
 }

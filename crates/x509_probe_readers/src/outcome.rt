@@ -1,7 +1,8 @@
 //! What readers answer.
 
 use std::fmt;
-use x509_parser::der::{Err, ReadError, Tries};
+use x509_parser::der::{BerError, Err, Located, ReadError, Tries};
+use x509_parser::error::X509Error;
 use x509_probe_show::{Answer, Show};
 
 // How many headers were looked at.
@@ -85,4 +86,37 @@ pub fn put_uncounted<T: Show, E: fmt::Debug + ReadError>(
     outcome: Result<(&[u8], T), Err<E>>,
 ) {
     put_outcome(out, input, &Tries::new(), outcome);
+}
+
+// What a call answers that tells the place of a refusal; of an error type by itself, since the borrow checker doesn't cover a
+// refusal with its place of any error type.
+macro_rules! put_places {
+    ($out:ident, $input:ident, $outcome:ident) => {
+        match $outcome {
+            Ok((rest, value)) => put_value($out, $input, &Tries::new(), rest, " ", &value),
+            Err(refusal) => {
+                $out.refusal(&refusal.why);
+                $out.add(" at=");
+                $out.display(&refusal.at);
+            }
+        }
+    };
+}
+
+/// Adds what a call answers that tells the place of a refusal.
+pub fn put_located<T: Show>(
+    out: &mut Answer,
+    input: &[u8],
+    outcome: Result<(&[u8], T), Located<X509Error>>,
+) {
+    put_places!(out, input, outcome);
+}
+
+/// The same of elements.
+pub fn put_located_element<T: Show>(
+    out: &mut Answer,
+    input: &[u8],
+    outcome: Result<(&[u8], T), Located<BerError>>,
+) {
+    put_places!(out, input, outcome);
 }

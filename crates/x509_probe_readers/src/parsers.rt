@@ -1,12 +1,12 @@
 //! The parsers at both depths, strict and not, and the calls of the facade.
 
-use crate::outcome::{put_marked, put_outcome, put_uncounted, put_whole};
+use crate::outcome::{put_located, put_marked, put_outcome, put_uncounted, put_whole};
 use x509_parser::certificate::{TbsCertificateParser, X509CertificateParser};
 use x509_parser::der::Tries;
 use x509_parser::extensions::X509ExtensionParser;
 use x509_parser::{
-    parse_crl_der, parse_x509_certificate_strict, parse_x509_crl, parse_x509_crl_strict,
-    parse_x509_csr_strict,
+    parse_crl_der, parse_x509_certificate_located, parse_x509_certificate_strict, parse_x509_crl,
+    parse_x509_crl_located, parse_x509_crl_strict, parse_x509_csr_located, parse_x509_csr_strict,
 };
 use x509_probe_show::Answer;
 
@@ -111,7 +111,41 @@ fn calls(word: &str, i: &[u8], out: &mut Answer) -> bool {
     true
 }
 
+// The same of parsers and calls that tell the place of a refusal.
+fn places(word: &str, i: &[u8], out: &mut Answer) -> bool {
+    let alloc = out.alloc();
+    let parser = X509CertificateParser::new();
+    let shallow = parser.with_deep_parse_extensions(false);
+    let tbs = TbsCertificateParser::new();
+    let extension = X509ExtensionParser::new();
+    match word {
+        "where_certificate_shallow" => put_located(out, i, shallow.parse_located(alloc, i)),
+        "where_certificate_strict" => {
+            put_located(out, i, parser.with_strict(true).parse_located(alloc, i));
+        }
+        "where_tbs_shallow" => {
+            let shallow = tbs.with_deep_parse_extensions(false);
+            put_located(out, i, shallow.parse_located(alloc, i));
+        }
+        "where_tbs_strict" => put_located(out, i, tbs.with_strict(true).parse_located(alloc, i)),
+        "where_extension_shallow" => {
+            let shallow = extension.with_deep_parse_extensions(false);
+            put_located(out, i, shallow.parse_located(alloc, i));
+        }
+        "where_parse_certificate" => {
+            put_located(out, i, parse_x509_certificate_located(alloc, i));
+        }
+        "where_parse_crl" => put_located(out, i, parse_x509_crl_located(alloc, i)),
+        "where_parse_csr" => put_located(out, i, parse_x509_csr_located(alloc, i)),
+        _ => return false,
+    }
+    true
+}
+
 /// Adds the answer of a parser or a call; false where the word names none.
 pub fn answer(word: &str, i: &[u8], out: &mut Answer) -> bool {
-    tbs_parsers(word, i, out) || certificate_parsers(word, i, out) || calls(word, i, out)
+    tbs_parsers(word, i, out)
+        || certificate_parsers(word, i, out)
+        || calls(word, i, out)
+        || places(word, i, out)
 }

@@ -1,6 +1,8 @@
 //! The types that are read from one element.
 
-use crate::outcome::{put_marked, put_outcome, put_uncounted, put_whole};
+use crate::outcome::{
+    put_located, put_located_element, put_marked, put_outcome, put_uncounted, put_whole,
+};
 use std::alloc::Global;
 use std::fmt;
 use x509_extensions::ExtensionSequence;
@@ -8,7 +10,8 @@ use x509_parser::certificate::{TbsCertificate, Validity, X509Certificate};
 use x509_parser::certification_request::{X509CertificationRequest, X509CertificationRequestInfo};
 use x509_parser::cri_attributes::{ExtensionRequest, X509CriAttribute};
 use x509_parser::der::{
-    BerError, Err, FromDer, ReadError, Sequence, Tries, read_any, read_run, read_run1, read_to_end,
+    BerError, Err, FromDer, ReadError, Sequence, Tries, Window, read_any, read_run, read_run1,
+    read_to_end,
 };
 use x509_parser::error::X509Error;
 use x509_parser::extensions::{
@@ -59,6 +62,15 @@ fn put_others(out: &mut Answer, first: &Answer, second: &Answer) {
     }
 }
 
+/// How a type is read.
+#[derive(Clone, Copy)]
+enum How {
+    /// By `read_marked`, `read` and `from_der`.
+    Counted,
+    /// By `from_der_located`.
+    Located,
+}
+
 // By `read_marked`, with the mark and the count; a `read` or `from_der` that answers otherwise shows.
 fn reading<'a, E: fmt::Debug + ReadError, T: FromDer<'a, E> + Show>(i: &'a [u8], out: &mut Answer) {
     let alloc = out.alloc();
@@ -73,13 +85,19 @@ fn reading<'a, E: fmt::Debug + ReadError, T: FromDer<'a, E> + Show>(i: &'a [u8],
 }
 
 // A type whose errors are those of fields.
-fn field<'a, T: FromDer<'a, X509Error> + Show>(i: &'a [u8], out: &mut Answer) {
-    reading::<X509Error, T>(i, out);
+fn field<'a, T: FromDer<'a, X509Error> + Show>(how: How, i: &'a [u8], out: &mut Answer) {
+    match how {
+        How::Counted => reading::<X509Error, T>(i, out),
+        How::Located => put_located(out, i, T::from_der_located(out.alloc(), i)),
+    }
 }
 
 // A type whose errors are those of elements.
-fn element<'a, T: FromDer<'a, BerError> + Show>(i: &'a [u8], out: &mut Answer) {
-    reading::<BerError, T>(i, out);
+fn element<'a, T: FromDer<'a, BerError> + Show>(how: How, i: &'a [u8], out: &mut Answer) {
+    match how {
+        How::Counted => reading::<BerError, T>(i, out),
+        How::Located => put_located_element(out, i, T::from_der_located(out.alloc(), i)),
+    }
 }
 
 // The lists of a type.
@@ -96,18 +114,28 @@ fn running<'a, T: FromDer<'a, X509Error> + Show>(i: &'a [u8], out: &mut Answer) 
 // Lists of at least one.
 fn running1<'a, T: FromDer<'a, X509Error> + Show>(i: &'a [u8], out: &mut Answer) {
     let mut tries = Tries::new();
-    let read: Result<(&'a [u8], Sequence<T>, bool), Err<X509Error>> = read_run1(
+    let read: Result<(&'a [u8], Sequence<T>, bool), Err<X509Error>> = match read_run1(
         out.alloc(),
         &mut tries,
-        i,
-    );
+        &Window::whole(i),
+    ) {
+        Ok(read) => Ok(read),
+        Err(e) => Err(e.why),
+    };
     put_marked(out, i, &tries, read);
 }
 
 // Lists to the end of the bytes.
 fn ending<'a, T: FromDer<'a, X509Error> + Show>(i: &'a [u8], out: &mut Answer) {
     let mut tries = Tries::new();
-    let read: Result<(Sequence<T>, bool), Err<X509Error>> = read_to_end(out.alloc(), &mut tries, i);
+    let read: Result<(Sequence<T>, bool), Err<X509Error>> = match read_to_end(
+        out.alloc(),
+        &mut tries,
+        &Window::whole(i),
+    ) {
+        Ok(read) => Ok(read),
+        Err(e) => Err(e.why),
+    };
     put_whole(out, i, &tries, read);
 }
 
@@ -165,49 +193,93 @@ fn key_bytes(i: &[u8], out: &mut Answer) {
 }
 
 // The words of values of extensions.
-fn values(word: &str, i: &[u8], out: &mut Answer) -> bool {
+fn values(how: How, word: &str, i: &[u8], out: &mut Answer) -> bool {
     match word {
-        "general_name" => field::<GeneralName>(i, out),
-        "key_identifier" => field::<KeyIdentifier>(i, out),
-        "key_bytes" => key_bytes(i, out),
-        "key_usage" => field::<KeyUsage>(i, out),
-        "subject_alt_name" => field::<SubjectAlternativeName>(i, out),
-        "issuer_alt_name" => field::<IssuerAlternativeName>(i, out),
-        "basic_constraints" => field::<BasicConstraints>(i, out),
-        "name_constraints" => field::<NameConstraints>(i, out),
-        "policy_constraints" => field::<PolicyConstraints>(i, out),
-        "inhibit_any_policy" => field::<InhibitAnyPolicy>(i, out),
-        "policy_mappings" => field::<PolicyMappings>(i, out),
-        "crl_distribution_points" => field::<CRLDistributionPoints>(i, out),
-        "authority_info_access" => field::<AuthorityInfoAccess>(i, out),
-        "subject_info_access" => field::<SubjectInfoAccess>(i, out),
-        "authority_key_identifier" => field::<AuthorityKeyIdentifier>(i, out),
-        "extended_key_usage" => field::<ExtendedKeyUsage>(i, out),
-        "ns_cert_type" => field::<NSCertType>(i, out),
-        "certificate_policies" => field::<PolicyList>(i, out),
-        "issuing_distribution_point" => field::<IssuingDistributionPoint>(i, out),
-        "crl_number" => field::<CRLNumber>(i, out),
-        "reason_code" => field::<ReasonCodeValue>(i, out),
-        "invalidity_date" => field::<InvalidityDate>(i, out),
-        _ => return parts(word, i, out),
+        "general_name" => field::<GeneralName>(how, i, out),
+        "key_identifier" => field::<KeyIdentifier>(how, i, out),
+        "key_usage" => field::<KeyUsage>(how, i, out),
+        "subject_alt_name" => field::<SubjectAlternativeName>(how, i, out),
+        "issuer_alt_name" => field::<IssuerAlternativeName>(how, i, out),
+        "basic_constraints" => field::<BasicConstraints>(how, i, out),
+        "name_constraints" => field::<NameConstraints>(how, i, out),
+        "policy_constraints" => field::<PolicyConstraints>(how, i, out),
+        "inhibit_any_policy" => field::<InhibitAnyPolicy>(how, i, out),
+        "policy_mappings" => field::<PolicyMappings>(how, i, out),
+        "crl_distribution_points" => field::<CRLDistributionPoints>(how, i, out),
+        "authority_info_access" => field::<AuthorityInfoAccess>(how, i, out),
+        "subject_info_access" => field::<SubjectInfoAccess>(how, i, out),
+        "authority_key_identifier" => field::<AuthorityKeyIdentifier>(how, i, out),
+        "extended_key_usage" => field::<ExtendedKeyUsage>(how, i, out),
+        "ns_cert_type" => field::<NSCertType>(how, i, out),
+        "certificate_policies" => field::<PolicyList>(how, i, out),
+        "issuing_distribution_point" => field::<IssuingDistributionPoint>(how, i, out),
+        "crl_number" => field::<CRLNumber>(how, i, out),
+        "reason_code" => field::<ReasonCodeValue>(how, i, out),
+        "invalidity_date" => field::<InvalidityDate>(how, i, out),
+        _ => return parts(how, word, i, out),
     }
     true
 }
 
 // The words of parts of such values.
-fn parts(word: &str, i: &[u8], out: &mut Answer) -> bool {
+fn parts(how: How, word: &str, i: &[u8], out: &mut Answer) -> bool {
     match word {
-        "policy_mapping" => element::<PolicyMapping>(i, out),
-        "policy_information" => element::<PolicyInformation>(i, out),
-        "qualifier" => element::<PolicyQualifierInfo>(i, out),
-        "subtree" => field::<GeneralSubtree>(i, out),
-        "access" => field::<AccessDescription>(i, out),
-        "point" => field::<CRLDistributionPoint>(i, out),
-        "point_name" => field::<DistributionPointName>(i, out),
-        "reason_flags" => field::<ReasonFlags>(i, out),
-        "timestamps" => element::<TimestampList>(i, out),
+        "policy_mapping" => element::<PolicyMapping>(how, i, out),
+        "policy_information" => element::<PolicyInformation>(how, i, out),
+        "qualifier" => element::<PolicyQualifierInfo>(how, i, out),
+        "subtree" => field::<GeneralSubtree>(how, i, out),
+        "access" => field::<AccessDescription>(how, i, out),
+        "point" => field::<CRLDistributionPoint>(how, i, out),
+        "point_name" => field::<DistributionPointName>(how, i, out),
+        "reason_flags" => field::<ReasonFlags>(how, i, out),
+        "timestamps" => element::<TimestampList>(how, i, out),
+        "extension_list" => field::<ExtensionSequence>(how, i, out),
+        _ => return false,
+    }
+    true
+}
+
+// The words of lists, requests and keys.
+fn structures(how: How, word: &str, i: &[u8], out: &mut Answer) -> bool {
+    match word {
+        "crl" => field::<CertificateRevocationList>(how, i, out),
+        "tbs_cert_list" => field::<TbsCertList>(how, i, out),
+        "revoked_certificate" => field::<RevokedCertificate>(how, i, out),
+        "csr" => field::<X509CertificationRequest>(how, i, out),
+        "csr_info" => field::<X509CertificationRequestInfo>(how, i, out),
+        "attribute" => field::<X509CriAttribute>(how, i, out),
+        "extension_request" => field::<ExtensionRequest>(how, i, out),
+        "rsa_key" => field::<RSAPublicKey>(how, i, out),
+        "ecdsa_value" => element::<EcdsaSigValue>(how, i, out),
+        _ => return values(how, word, i, out),
+    }
+    true
+}
+
+// The words of certificates and their fields, and of all other types.
+fn types(how: How, word: &str, i: &[u8], out: &mut Answer) -> bool {
+    match word {
+        "version" => field::<X509Version>(how, i, out),
+        "alg" => field::<AlgorithmIdentifier>(how, i, out),
+        "atv" => field::<AttributeTypeAndValue>(how, i, out),
+        "rdn" => field::<RelativeDistinguishedName>(how, i, out),
+        "name" => field::<X509Name>(how, i, out),
+        "time" => field::<ASN1Time>(how, i, out),
+        "spki" => field::<SubjectPublicKeyInfo>(how, i, out),
+        "validity" => field::<Validity>(how, i, out),
+        "extension" => field::<X509Extension>(how, i, out),
+        "tbs" => field::<TbsCertificate>(how, i, out),
+        "certificate" => field::<X509Certificate>(how, i, out),
+        _ => return structures(how, word, i, out),
+    }
+    true
+}
+
+// The words of readers that are of no type.
+fn others(word: &str, i: &[u8], out: &mut Answer) -> bool {
+    match word {
+        "key_bytes" => key_bytes(i, out),
         "ns_comment" => comment(i, out),
-        "extension_list" => field::<ExtensionSequence>(i, out),
         "wrapped_extensions" => wrapped(i, out),
         "general_name_of" => name_of(i, out),
         "sct" => put_uncounted(out, i, parse_ct_signed_certificate_timestamp(i)),
@@ -215,43 +287,15 @@ fn parts(word: &str, i: &[u8], out: &mut Answer) -> bool {
             let read = parse_ct_signed_certificate_timestamp_list(out.alloc(), i);
             put_uncounted(out, i, read);
         }
-        _ => return structures(word, i, out),
-    }
-    true
-}
-
-// The words of lists, requests, keys, and of strict readers.
-fn structures(word: &str, i: &[u8], out: &mut Answer) -> bool {
-    match word {
-        "crl" => field::<CertificateRevocationList>(i, out),
-        "tbs_cert_list" => field::<TbsCertList>(i, out),
-        "revoked_certificate" => field::<RevokedCertificate>(i, out),
-        "csr" => field::<X509CertificationRequest>(i, out),
-        "csr_info" => field::<X509CertificationRequestInfo>(i, out),
-        "attribute" => field::<X509CriAttribute>(i, out),
-        "extension_request" => field::<ExtensionRequest>(i, out),
-        "rsa_key" => field::<RSAPublicKey>(i, out),
-        "ecdsa_value" => element::<EcdsaSigValue>(i, out),
         _ => return lists(word, i, out),
     }
     true
 }
 
-/// Adds the answer of a type; false where the word names none.
+/// Adds the answer of a type; false where the word names none. Behind `where_` it is that with the place of a refusal.
 pub fn answer(word: &str, i: &[u8], out: &mut Answer) -> bool {
-    match word {
-        "version" => field::<X509Version>(i, out),
-        "alg" => field::<AlgorithmIdentifier>(i, out),
-        "atv" => field::<AttributeTypeAndValue>(i, out),
-        "rdn" => field::<RelativeDistinguishedName>(i, out),
-        "name" => field::<X509Name>(i, out),
-        "time" => field::<ASN1Time>(i, out),
-        "spki" => field::<SubjectPublicKeyInfo>(i, out),
-        "validity" => field::<Validity>(i, out),
-        "extension" => field::<X509Extension>(i, out),
-        "tbs" => field::<TbsCertificate>(i, out),
-        "certificate" => field::<X509Certificate>(i, out),
-        _ => return values(word, i, out),
+    match word.strip_prefix("where_") {
+        Some(word) => types(How::Located, word, i, out),
+        None => types(How::Counted, word, i, out) || others(word, i, out),
     }
-    true
 }

@@ -3,11 +3,13 @@ use Rattle.std.proofs.Common.{◌≡◌, ℕ, List, [], ◌++◌, ◌&&◌, Bool
 use Rattle.std.proofs.lemmas.List.{append_cancel_right}
 use Rattle.x509_der.specs.declared.error.BerError.{BerError}
 use Rattle.x509_der.specs.declared.error.Err.{Err as Refusal}
+use Rattle.x509_der.specs.declared.error.Refused.{Refused}
+use Rattle.x509_der.specs.Promises.{GivesAt}
 use Rattle.x509_der.specs.Laws.{IsBytes}
 use Rattle.x509_der.specs.Leaves.{sequence}
-use Rattle.x509_der.specs.Plan.{Outcome, got, is_read, then_marks}
+use Rattle.x509_der.specs.Plan.{Outcome, Plan, got, is_read, then_marks}
 use Rattle.x509_der.specs.Primitives.{is_constructed}
-use Rattle.x509_der.specs.Reading.{Gives, Element, strict}
+use Rattle.x509_der.specs.Reading.{Element, strict}
 use Rattle.x509_der.proofs.Lawful.{as_loose}
 use Rattle.x509_der.proofs.Results.{bytes_before, got_parts, got_not_err}
 use Rattle.x509_der.proofs.Words.{sequence_laws}
@@ -15,9 +17,9 @@ use Rattle.x509_requests.specs.CriAttribute.{Parts, loose_sequence, attribute_fi
 use Rattle.x509_requests.specs.AttributeLaws.{loose_sequence_laws, attribute_parts_laws}
 
 -- a reader accepts exactly where something is read
-pub ok_is_read : {X F A : Type 0} (view : X → List ℕ × A) (r : Result X F) (o : Outcome F A) (b : Bool) → Gives view r o → b ≡ is_ok r → b ≡ is_read o
-ok_is_read view (Ok x) o b e is = is ∙ sym (ap is_read e)
-ok_is_read view (Err w) o b e is = is ∙ sym (ap is_read e)
+pub ok_is_read : {E A X L : Type 0} (view : X → List ℕ × A) (p : Plan (Refusal E) A) (more : ℕ → L → L) (place : List ℕ) (outside : L) (r : Result X (Refused E L)) (b : Bool) → GivesAt view p more place outside r → b ≡ is_ok r → b ≡ is_read (p.read place)
+ok_is_read view p more place outside (Ok x) b e is = is ∙ sym (ap is_read e)
+ok_is_read view p more place outside (Err w) b e is = is ∙ sym (ap is_read e.0)
 
 -- a strict SEQUENCE is a loose one
 as_loose_sequence : (place contents next : List ℕ) → IsBytes place → sequence.read place ≡ got contents next → loose_sequence.read place ≡ got contents next

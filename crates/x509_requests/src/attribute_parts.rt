@@ -2,14 +2,17 @@
 
 ghost use Rattle.std.specs.Prelude.{◌≡◌, ◌≤◌, ◌+◌, ◌-◌, ◌*◌, true, IfOk, IsErr, length};
 ghost use Rattle.x509_der.specs.Looks.{behind, is_element};
-ghost use Rattle.x509_der.specs.Place.{at};
+ghost use Rattle.x509_der.specs.Place.{at, outside_of, bytes_in, outside_in};
 ghost use Rattle.x509_der.specs.Primitives.{is_constructed};
-ghost use Rattle.x509_der.specs.Promises.{IsForeign, ReadsContents, ReadsLeaf};
-ghost use Rattle.x509_der.specs.Reading.{Gives, AddsAtLeast, element_of, loose};
+ghost use Rattle.x509_der.specs.Promises.{IsForeign, ReadsLeaf, GivesAt, ReadsWindow};
+ghost use Rattle.x509_der.specs.Reading.{AddsAtLeast, element_of, loose};
 ghost use Rattle.x509_fields.specs.Fields.{lifted};
 ghost use Rattle.x509_requests.specs.CriAttribute.{parts_of, set_of, loose_sequence, attribute_set, attribute_fields, attribute_parts};
 
-use x509_der::{Any, BerError, Class, Err, Fields, Header, Oid, Place, Tag, Tries};
+use x509_der::{
+    Any, BerError, Class, Err, Fields, Header, Oid, Outside, Place, Refused, Tag, Tries, Window,
+    named,
+};
 use x509_fields::X509Error;
 
 /// An attribute whose value isn't looked at.
@@ -27,8 +30,10 @@ pub(crate) struct AttributeParts<'a> {
 // The contents of a SEQUENCE, its length in any octets.
 #[inline(always)]
 #[tactic(auto, unfolding(crate::specs::CriAttribute::loose_sequence, x509_der::specs::Leaves::any_loose, x509_der::specs::Primitives::contents_at))]
-fn loose_sequence_at<'a>(place: &Place<'a>) -> Result<&'a [u8], Err<X509Error>>
-    ensures reads { ReadsContents loose (is_constructed 16) (λ x. x.now) (lifted loose_sequence) (at place.now) result }
+fn loose_sequence_at<'a, L: Outside>(
+    place: &Place<'a, L>,
+) -> Result<Window<'a, L>, Refused<X509Error, L>>
+    ensures reads { ReadsWindow loose (is_constructed 16) (λ x. bytes_in x) (λ x. outside_in x) (lifted loose_sequence) L.adds (at place.now) (outside_of place.now) result }
     ensures marks { (lifted loose_sequence).marks (at place.now) ≡ true }
 {
     let (any, _) = place.any_marked().map_err(|e| e.convert())?;
@@ -38,24 +43,27 @@ fn loose_sequence_at<'a>(place: &Place<'a>) -> Result<&'a [u8], Err<X509Error>>
             constructed: true,
             tag: Tag(16),
             ..
-        } => Ok(any.as_bytes()),
-        _ => Err(Err::Error(X509Error::Der(BerError::InvalidTag))),
+        } => Ok(place.window(any.as_bytes())),
+        _ => Err(place.refuse(Err::Error(X509Error::Der(BerError::InvalidTag)))),
     }
 }
 
 // A SET, and its header and contents.
 #[inline(always)]
 #[tactic(auto, unfolding(crate::specs::CriAttribute::attribute_set, x509_der::specs::Leaves::any))]
-fn set_at<'a>(place: &Place<'a>) -> Result<(&'a [u8], Any<'a>), Err<X509Error>>
-    ensures reads { ReadsLeaf set_of attribute_set (at place.now) result }
+fn set_at<'a, L: Outside>(
+    place: &Place<'a, L>,
+) -> Result<(&'a [u8], Any<'a>), Refused<X509Error, L>>
+    ensures reads { ReadsLeaf set_of attribute_set L.adds (at place.now) (outside_of place.now) result }
     ensures marks { attribute_set.marks (at place.now) ≡ true }
     ensures sizes { IfOk result (λ x. length (behind (at place.now)) + length (element_of x.1).contents + 2 ≤ length (at place.now)) }
 {
-    let element = place
-        .any()
-        .map_err(|_| Err::Error(X509Error::InvalidAttributes))?;
+    let element = match place.any() {
+        Ok(element) => element,
+        Err(e) => return Err(e.named(Err::Error(X509Error::InvalidAttributes))),
+    };
     if element.tag() != Tag::Set {
-        return Err(Err::Error(X509Error::InvalidAttributes));
+        return Err(place.refuse(Err::Error(X509Error::InvalidAttributes)));
     }
     let bytes = place.bytes();
     Ok((&bytes[..bytes.len() - place.rest().len()], element))
@@ -63,11 +71,11 @@ fn set_at<'a>(place: &Place<'a>) -> Result<(&'a [u8], Any<'a>), Err<X509Error>>
 
 // The parts, with their own refusals, and whether nothing stands behind the SET.
 #[tactic(auto, unfolding(crate::specs::CriAttribute::attribute_fields), using(x509_der::proofs::Marking::marks_of_readers))]
-fn read_attribute_fields<'a>(
+fn read_attribute_fields<'a, L: Outside>(
     tries: &mut Tries,
-    place: &Place<'a>,
-) -> Result<(AttributeParts<'a>, bool), Err<X509Error>>
-    ensures reads { Gives (λ x. (behind (at place.now), parts_of x.0)) result (attribute_fields.read (at place.now)) }
+    place: &Place<'a, L>,
+) -> Result<(AttributeParts<'a>, bool), Refused<X509Error, L>>
+    ensures reads { GivesAt (λ x. (behind (at place.now), parts_of x.0)) attribute_fields L.adds (at place.now) (outside_of place.now) result }
     ensures marks { IfOk result (λ x. x.1 ≡ attribute_fields.marks (at place.now)) }
     ensures grows { tries.old ≤ tries.new }
     ensures count { IfOk result (λ x. tries.new + 9 + 8 * length (element_of x.0.element).contents + 8 * length (behind (at place.now)) ≤ tries.old + 8 * length (at place.now)) }
@@ -77,7 +85,7 @@ fn read_attribute_fields<'a>(
     ensures there { IfOk result (λ _. is_element (at place.now) ≡ true) }
 {
     let contents = loose_sequence_at(place)?;
-    let fields = Fields::of(tries, contents);
+    let fields = Fields::of(tries, &contents);
     let (fields, oid) = fields.oid(tries).map_err(|e| e.convert())?;
     let (set, element) = set_at(&fields.place)?;
     let bytes = place.bytes();
@@ -93,11 +101,11 @@ fn read_attribute_fields<'a>(
 /// The parts of the attribute at a place, and whether nothing stands behind the SET. Every refusal is `InvalidAttributes`.
 #[inline(always)]
 #[tactic(auto, unfolding(crate::specs::CriAttribute::attribute_parts))]
-pub(crate) fn read_attribute_parts<'a>(
+pub(crate) fn read_attribute_parts<'a, L: Outside>(
     tries: &mut Tries,
-    place: &Place<'a>,
-) -> Result<(AttributeParts<'a>, bool), Err<X509Error>>
-    ensures reads { Gives (λ x. (behind (at place.now), parts_of x.0)) result (attribute_parts.read (at place.now)) }
+    place: &Place<'a, L>,
+) -> Result<(AttributeParts<'a>, bool), Refused<X509Error, L>>
+    ensures reads { GivesAt (λ x. (behind (at place.now), parts_of x.0)) attribute_parts L.adds (at place.now) (outside_of place.now) result }
     ensures marks { IfOk result (λ x. x.1 ≡ attribute_parts.marks (at place.now)) }
     ensures grows { tries.old ≤ tries.new }
     ensures count { IfOk result (λ x. tries.new + 9 + 8 * length (element_of x.0.element).contents + 8 * length (behind (at place.now)) ≤ tries.old + 8 * length (at place.now)) }
@@ -106,5 +114,8 @@ pub(crate) fn read_attribute_parts<'a>(
     ensures least { IfOk result (λ _. AddsAtLeast 2 tries.old tries.new) }
     ensures there { IfOk result (λ _. is_element (at place.now) ≡ true) }
 {
-    read_attribute_fields(tries, place).map_err(|_| Err::Error(X509Error::InvalidAttributes))
+    Ok(named!(
+        read_attribute_fields(tries, place),
+        X509Error::InvalidAttributes
+    ))
 }

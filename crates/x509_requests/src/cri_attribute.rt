@@ -1,6 +1,6 @@
 //! Attributes of a request.
 
-ghost use Rattle.std.specs.Prelude.{◌≡◌, ◌≤◌, ◌+◌, ◌-◌, ◌*◌, true, false, length, IfOk, MatchResult};
+ghost use Rattle.std.specs.Prelude.{◌≡◌, ◌≤◌, ◌+◌, ◌*◌, true, false, length, IfOk, MatchResult};
 ghost use Rattle.x509_der.specs.Oid.{oid_bytes};
 ghost use Rattle.x509_der.specs.Primitives.{is_constructed};
 ghost use Rattle.x509_der.specs.declared.error.Err.TheVariants.{Error};
@@ -16,7 +16,7 @@ use crate::attribute_parts::{AttributeParts, read_attribute_parts};
 use crate::extension_request::ExtensionRequest;
 use crate::password::{ChallengePassword, read_password};
 use std::alloc::Global;
-use x509_der::{Class, Err, Fields, FromDer, Header, Oid, Place, Tag, Tries};
+use x509_der::{Class, Err, Fields, FromDer, Header, Oid, Outside, Place, Refused, Tries, Window};
 use x509_fields::{TryClone, X509Error};
 
 /// An attribute of a certification request (RFC 2986, section 4.1).
@@ -119,11 +119,11 @@ impl<'a> FromDer<'a, X509Error> for X509CriAttribute<'a> {
     ghost takes_memory = { true };
 
     #[tactic(auto, unfolding(crate::specs::CriAttribute::attribute, crate::specs::CriAttribute::said, crate::specs::CriAttribute::parts_mark))]
-    fn read_at(
+    fn read_at<L: Outside>(
         alloc: Global,
         tries: &mut Tries,
-        place: &Place<'a>,
-    ) -> Result<(Self, bool), Err<X509Error>> {
+        place: &Place<'a, L>,
+    ) -> Result<(Self, bool), Refused<X509Error, L>> {
         let (parts, plain) = read_attribute_parts(tries, place)?;
         let is_sequence = place.sequence().is_ok();
         let is_set = is_plain_set(parts.element.header());
@@ -137,7 +137,7 @@ impl<'a> FromDer<'a, X509Error> for X509CriAttribute<'a> {
                 };
                 Ok((attribute, plain & (is_sequence & (is_set & value_plain))))
             }
-            Err(e) => Err(e),
+            Err(e) => Err(place.refuse(e)),
         }
     }
 
@@ -168,20 +168,20 @@ fn parse_values<'a>(
     match AttributeKind::of(oid.as_bytes()) {
         None => Ok((ParsedCriAttribute::UnsupportedAttribute, true)),
         Some(AttributeKind::ChallengePassword) => {
-            let fields = Fields::of(tries, values);
+            let fields = Fields::of(tries, &Window::whole(values));
             match read_password(alloc, &fields.place) {
                 Ok(password) => Ok((
                     ParsedCriAttribute::ChallengePassword(password),
                     fields.ends_here(),
                 )),
-                Err(e) => Err(refusal_of(e)),
+                Err(e) => Err(refusal_of(e.why)),
             }
         }
         Some(AttributeKind::ExtensionRequest) => {
-            let fields = Fields::of(tries, values);
+            let fields = Fields::of(tries, &Window::whole(values));
             match fields.last(alloc, tries) {
                 Ok((request, plain)) => Ok((ParsedCriAttribute::ExtensionRequest(request), plain)),
-                Err(e) => Err(refusal_of(e)),
+                Err(e) => Err(refusal_of(e.why)),
             }
         }
     }

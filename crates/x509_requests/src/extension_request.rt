@@ -8,7 +8,7 @@ ghost use Rattle.x509_extensions.specs.ExtensionList.{extensions, extensions_hea
 ghost use Rattle.x509_requests.specs.ExtensionRequest.{request_of};
 
 use std::alloc::Global;
-use x509_der::{Err, FromDer, Place, Sequence, Tries};
+use x509_der::{FromDer, Outside, Place, Refused, Sequence, Tries};
 use x509_extensions::{ExtensionSequence, X509Extension};
 use x509_fields::{TryClone, X509Error};
 
@@ -42,11 +42,11 @@ impl<'a> FromDer<'a, X509Error> for ExtensionRequest<'a> {
 
     ghost takes_memory = { true };
 
-    fn read_at(
+    fn read_at<L: Outside>(
         alloc: Global,
         tries: &mut Tries,
-        place: &Place<'a>,
-    ) -> Result<(Self, bool), Err<X509Error>> {
+        place: &Place<'a, L>,
+    ) -> Result<(Self, bool), Refused<X509Error, L>> {
         match ExtensionSequence::read_at(alloc, tries, place) {
             Ok((ExtensionSequence { list }, plain)) => {
                 Ok((ExtensionRequest { extensions: list }, plain))

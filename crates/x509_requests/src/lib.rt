@@ -19,7 +19,9 @@ pub use cri_attribute::{ParsedCriAttribute, X509CriAttribute};
 pub use cri_attribute_iter::CriAttributeIter;
 pub use extension_request::ExtensionRequest;
 pub use laws::grammar_laws;
-pub use parsing::{parse_x509_csr, parse_x509_csr_marked, parse_x509_csr_strict};
+pub use parsing::{
+    parse_x509_csr, parse_x509_csr_located, parse_x509_csr_marked, parse_x509_csr_strict,
+};
 pub use password::ChallengePassword;
 pub use request::X509CertificationRequest;
 pub use request_info::X509CertificationRequestInfo;

@@ -1,13 +1,13 @@
 //! Reading whole requests.
 
 ghost use Rattle.std.specs.Prelude.{◌≡◌, true, IfOk};
-ghost use Rattle.x509_der.specs.Promises.{Answers, ReadsExactly};
+ghost use Rattle.x509_der.specs.Promises.{Answers, ReadsExactly, ReadsWhere};
 ghost use Rattle.x509_fields.specs.Errors.{is_x509_memory};
 ghost use Rattle.x509_requests.specs.Request.{RequestStands, certification_request, certification_request_of, plain_request};
 
 use crate::request::X509CertificationRequest;
 use std::alloc::Global;
-use x509_der::{Err, FromDer, Tries};
+use x509_der::{Err, FromDer, Located, Tries};
 use x509_fields::{X509Error, X509Result};
 use x509_signed::read_plain;
 
@@ -24,6 +24,25 @@ pub fn parse_x509_csr<'a>(
     ensures stands { IfOk result (λ x. RequestStands i.now (certification_request_of x.1) x.0.now) }
 {
     match X509CertificationRequest::from_der(alloc, i) {
+        Ok((rest, request)) => Ok((rest, request)),
+        Err(e) => Err(e),
+    }
+}
+
+/// The same as [`parse_x509_csr`]; a refusal has the offset, in octets from the front, of the place at which the grammar refuses
+/// the bytes.
+///
+/// # Errors
+///
+/// Those of [`parse_x509_csr`], with their offset; want of memory has none.
+pub fn parse_x509_csr_located<'a>(
+    alloc: Global,
+    i: &'a [u8],
+) -> Result<(&'a [u8], X509CertificationRequest<'a>), Located<X509Error>>
+    ensures exact { ReadsWhere is_x509_memory true (λ x. (x.0.now, certification_request_of x.1)) certification_request i.now result }
+    ensures stands { IfOk result (λ x. RequestStands i.now (certification_request_of x.1) x.0.now) }
+{
+    match X509CertificationRequest::from_der_located(alloc, i) {
         Ok((rest, request)) => Ok((rest, request)),
         Err(e) => Err(e),
     }

@@ -2,15 +2,15 @@
 
 ghost use Rattle.std.specs.Prelude.{◌≡◌, string_bytes, true, IfOk, MatchResult};
 ghost use Rattle.x509_der.specs.Looks.{behind, is_element};
-ghost use Rattle.x509_der.specs.Place.{at};
-ghost use Rattle.x509_der.specs.Promises.{Answers};
+ghost use Rattle.x509_der.specs.Place.{at, outside_of};
 ghost use Rattle.x509_fields.specs.declared.error.X509Error.TheVariants.{OutOfMemory};
 ghost use Rattle.x509_fields.specs.Errors.{is_x509_memory};
 ghost use Rattle.x509_fields.specs.NameTexts.{IsText};
 ghost use Rattle.x509_requests.specs.PasswordTexts.{utf32_text, password_text, password};
+ghost use Rattle.x509_der.specs.Promises.{AnswersAt};
 
 use std::alloc::Global;
-use x509_der::{Class, Err, Place, Tag};
+use x509_der::{Class, Err, Outside, Place, Refused, Tag, named};
 use x509_fields::{X509Error, utf8_text, utf16_text};
 
 /// A password by which a certificate can be revoked (RFC 2985, section 5.4.1).
@@ -33,25 +33,23 @@ impl ChallengePassword {
 
 /// The password at a place, in any of five types of strings.
 #[tactic(auto, unfolding(crate::specs::PasswordTexts::password, crate::specs::PasswordTexts::password_element, x509_der::specs::Leaves::any))]
-pub(crate) fn read_password<'a>(
+pub(crate) fn read_password<'a, L: Outside>(
     alloc: Global,
-    place: &Place<'a>,
-) -> Result<ChallengePassword, Err<X509Error>>
-    ensures reads { Answers is_x509_memory true (λ x. (behind (at place.now), string_bytes x.0)) result (password.read (at place.now)) }
+    place: &Place<'a, L>,
+) -> Result<ChallengePassword, Refused<X509Error, L>>
+    ensures reads { AnswersAt is_x509_memory true (λ x. (behind (at place.now), string_bytes x.0)) password L.adds (at place.now) (outside_of place.now) result }
     ensures marks { password.marks (at place.now) ≡ true }
     ensures there { IfOk result (λ _. is_element (at place.now) ≡ true) }
 {
-    let any = place
-        .any()
-        .map_err(|_| Err::Error(X509Error::InvalidAttributes))?;
+    let any = named!(place.any(), X509Error::InvalidAttributes);
     let header = any.header();
     if header.constructed || !matches!(header.class, Class::Universal) {
-        return Err(Err::Error(X509Error::InvalidAttributes));
+        return Err(place.refuse(Err::Error(X509Error::InvalidAttributes)));
     }
     match password_text(alloc, header.tag, any.as_bytes()) {
         Ok(text) => Ok(ChallengePassword(text)),
-        Err(X509Error::OutOfMemory) => Err(Err::Failure(X509Error::OutOfMemory)),
-        Err(_) => Err(Err::Error(X509Error::InvalidAttributes)),
+        Err(X509Error::OutOfMemory) => { Err(place.refuse(Err::Failure(X509Error::OutOfMemory))) }
+        Err(_) => Err(place.refuse(Err::Error(X509Error::InvalidAttributes))),
     }
 }
 

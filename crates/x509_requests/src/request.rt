@@ -12,7 +12,7 @@ use crate::cri_attribute::ParsedCriAttribute;
 use crate::request_info::X509CertificationRequestInfo;
 use crate::requested_iter::RequestedIter;
 use std::alloc::Global;
-use x509_der::{BitString, Err, FromDer, Place, Tries};
+use x509_der::{BitString, FromDer, Outside, Place, Refused, Tries, ok};
 use x509_fields::{AlgorithmIdentifier, X509Error};
 use x509_signed::{Signed, read_signed};
 
@@ -83,11 +83,11 @@ impl<'a> FromDer<'a, X509Error> for X509CertificationRequest<'a> {
     ghost takes_memory = { true };
 
     #[tactic(auto, unfolding(crate::specs::Request::certification_request))]
-    fn read_at(
+    fn read_at<L: Outside>(
         alloc: Global,
         tries: &mut Tries,
-        place: &Place<'a>,
-    ) -> Result<(Self, bool), Err<X509Error>> {
+        place: &Place<'a, L>,
+    ) -> Result<(Self, bool), Refused<X509Error, L>> {
         let (
             Signed {
                 tbs,
@@ -96,10 +96,7 @@ impl<'a> FromDer<'a, X509Error> for X509CertificationRequest<'a> {
                 raw,
             },
             plain,
-        ) = match read_signed(alloc, tries, place) {
-            Ok(read) => read,
-            Err(e) => return Err(e),
-        };
+        ) = ok!(read_signed(alloc, tries, place));
         let request = X509CertificationRequest {
             certification_request_info: tbs,
             signature_algorithm,

@@ -1,6 +1,6 @@
 //! What a certification request says.
 
-ghost use Rattle.std.specs.Prelude.{◌≡◌, ◌-◌, length, true};
+ghost use Rattle.std.specs.Prelude.{◌≡◌, true};
 ghost use Rattle.x509_der.specs.Primitives.{is_constructed};
 ghost use Rattle.x509_der.specs.Reading.{strict};
 ghost use Rattle.x509_requests.specs.AttributeIter.{attributes_left};
@@ -10,7 +10,7 @@ use crate::cri_attribute::X509CriAttribute;
 use crate::cri_attribute_iter::CriAttributeIter;
 use crate::request_attributes::read_attributes;
 use std::alloc::Global;
-use x509_der::{Err, Fields, FromDer, Place, Sequence, Tries};
+use x509_der::{Fields, FromDer, Outside, Place, Refused, Sequence, Tries, ok};
 use x509_fields::{X509Error, X509Name, X509Version, sequence_at};
 use x509_keys::SubjectPublicKeyInfo;
 
@@ -74,20 +74,17 @@ impl<'a> FromDer<'a, X509Error> for X509CertificationRequestInfo<'a> {
     ghost takes_memory = { true };
 
     #[tactic(auto, unfolding(crate::specs::RequestInfo::request_info), using(x509_der::proofs::Marking::marks_of_readers))]
-    fn read_at(
+    fn read_at<L: Outside>(
         alloc: Global,
         tries: &mut Tries,
-        place: &Place<'a>,
-    ) -> Result<(Self, bool), Err<X509Error>> {
+        place: &Place<'a, L>,
+    ) -> Result<(Self, bool), Refused<X509Error, L>> {
         let contents = sequence_at(place)?;
-        let fields = Fields::of(tries, contents);
+        let fields = Fields::of(tries, &contents);
         let (fields, version) = fields.field(alloc, tries)?;
         let (fields, subject) = fields.field(alloc, tries)?;
         let (fields, subject_pki) = fields.field(alloc, tries)?;
-        let (attributes, attributes_plain) = match read_attributes(alloc, tries, &fields.place) {
-            Ok((attributes, plain)) => (attributes, plain),
-            Err(e) => return Err(e),
-        };
+        let (attributes, attributes_plain) = ok!(read_attributes(alloc, tries, &fields.place));
         let bytes = place.bytes();
         let info = X509CertificationRequestInfo {
             version,

@@ -1,28 +1,27 @@
 //! The serial number (RFC 5280, section 4.1.2.2).
 
 ghost use Rattle.std.specs.Prelude.{◌≡◌, ◌&&◌, IfOk};
-ghost use Rattle.x509_der.specs.Fields.{next_of, plain_in, StepsLeaf};
-ghost use Rattle.x509_der.specs.Place.{at};
+ghost use Rattle.x509_der.specs.Fields.{next_of, plain_in, StepsLeaf, outer_of};
+ghost use Rattle.x509_der.specs.Place.{at, outside_of};
 ghost use Rattle.x509_der.specs.Primitives.{is_primitive};
 ghost use Rattle.x509_der.specs.Promises.{ReadsLeaf};
-ghost use Rattle.x509_der.specs.Reading.{strict};
 ghost use Rattle.x509_signed.specs.Serial.{serial, are_fewest};
 
-use x509_der::{Class, Err, Fields, Header, Place, Tag, Tries};
+use x509_der::{Class, Err, Fields, Header, Outside, Place, Refused, Tag, Tries, named};
 use x509_fields::X509Error;
 
 /// The contents of a serial: any element of number 2, whatever its class, form, length octets and contents.
 #[inline(always)]
 #[tactic(auto, unfolding(crate::specs::Serial::serial, crate::specs::Serial::serial_contents, x509_der::specs::Leaves::integer, x509_der::specs::Leaves::any_loose, x509_der::specs::Primitives::contents_at))]
-pub fn serial_at<'a>(place: &Place<'a>) -> Result<(&'a [u8], bool), Err<X509Error>>
-    ensures reads { ReadsLeaf (λ x. x.0.now) serial (at place.now) result }
+pub fn serial_at<'a, L: Outside>(
+    place: &Place<'a, L>,
+) -> Result<(&'a [u8], bool), Refused<X509Error, L>>
+    ensures reads { ReadsLeaf (λ x. x.0.now) serial L.adds (at place.now) (outside_of place.now) result }
     ensures marks { IfOk result (λ x. x.1 ≡ serial.marks (at place.now)) }
 {
-    let (any, strict) = place
-        .any_marked()
-        .map_err(|_| Err::Error(X509Error::InvalidSerial))?;
+    let (any, strict) = named!(place.any_marked(), X509Error::InvalidSerial);
     if any.tag() != Tag::Integer {
-        return Err(Err::Error(X509Error::InvalidSerial));
+        return Err(place.refuse(Err::Error(X509Error::InvalidSerial)));
     }
     let plain = strict && is_plain_integer(any.header(), any.as_bytes());
     Ok((any.as_bytes(), plain))
@@ -30,11 +29,11 @@ pub fn serial_at<'a>(place: &Place<'a>) -> Result<(&'a [u8], bool), Err<X509Erro
 
 /// The contents of the serial that stands next.
 #[inline(always)]
-pub fn read_serial<'a>(
+pub fn read_serial<'a, L: Outside>(
     tries: &mut Tries,
-    fields: &Fields<'a>,
-) -> Result<(Fields<'a>, &'a [u8]), Err<X509Error>>
-    ensures { StepsLeaf (λ x. (next_of x.0, x.1.now)) (λ x. plain_in x.0) serial (plain_in fields.now) (next_of fields.now) tries.old tries.new result }
+    fields: &Fields<'a, L>,
+) -> Result<(Fields<'a, L>, &'a [u8]), Refused<X509Error, L>>
+    ensures { StepsLeaf (λ x. (next_of x.0, x.1.now)) (λ x. outer_of x.0) (λ x. plain_in x.0) serial (plain_in fields.now) L.adds (next_of fields.now) (outer_of fields.now) tries.old tries.new result }
 {
     let (contents, plain) = serial_at(&fields.place)?;
     Ok((fields.behind(tries, plain), contents))

@@ -1,10 +1,10 @@
 -- The number that big-endian octets spell is the number in base 256 of these digits.
-use Rattle.std.proofs.Common.{◌≡◌, ℕ, List, [], ◌∷◌, length, Err, sym, ap, ◌∙◌, arith, w8, w16, w64}
+use Rattle.std.proofs.Common.{◌≡◌, ℕ, List, [], ◌∷◌, length, Ok, Err, refl, sym, ap, ◌∙◌, arith, w8, w16, w64}
 use Rattle.std.specs.Int.{from_be_bytes}
 use Rattle.std.specs.Int.Digits.{number_from_digits}
 use Rattle.x509_der.specs.declared.error.BerError.{BerError}
 use Rattle.x509_der.specs.declared.error.Err.{Err as Refusal}
-use Rattle.x509_der.specs.Plan.{Outcome, got, and_then}
+use Rattle.x509_der.specs.Plan.{Outcome, got, and_then, then_stop, stop_here}
 use Rattle.x509_timestamps.specs.Octets.{fixed, number_of}
 use Rattle.x509_timestamps.specs.OctetLaws.{was_cut, number_by}
 
@@ -43,3 +43,12 @@ u64_read place octets rest number e is = number_by 8 place octets rest number e 
 pub number_refused : (n : ℕ) (place : List ℕ) (r : Refusal BerError) → (fixed n).read place ≡ Err r → (number_of n).read place ≡ Err r
 unfolding number_of
 number_refused n place r e = ap (λ (x : Outcome (Refusal BerError) (List ℕ)). and_then x (λ octets rest. got (number_from_digits 256 octets) rest)) e
+
+-- a number that isn't read is refused where it would stand
+pub number_stops : {L : Type 0} (n : ℕ) (more : ℕ → L → L) (place : List ℕ) (outside : L) (r : Refusal BerError) → (number_of n).read place ≡ Err r → (number_of n).stop more place outside ≡ stop_here more place outside
+unfolding number_of fixed
+number_stops {L} n more place outside r e = go ((fixed n).read place) e
+  where
+    go : (x : Outcome (Refusal BerError) (List ℕ)) → and_then x (λ octets rest. got (number_from_digits 256 octets) rest) ≡ Err r → then_stop x (stop_here more place outside) (λ octets rest. stop_here more rest outside) ≡ stop_here more place outside
+    go (Err why) e = refl
+    go (Ok x) e = absurd cc

@@ -1,9 +1,12 @@
 //! Octets, numbers and strings of octets as TLS presents them (RFC 5246, section 4): no headers, big-endian.
 
+ghost use Rattle.std.specs.Prelude.{◌≡◌, IfOk, length};
 ghost use Rattle.x509_der.specs.Reading.{Gives};
 ghost use Rattle.x509_timestamps.specs.Octets.{fixed, number_of, sized};
+ghost use Rattle.x509_der.specs.Place.{bytes_in, outside_in};
+ghost use Rattle.x509_der.specs.Promises.{GivesAt};
 
-use x509_der::{BerError, Err};
+use x509_der::{BerError, Err, Outside, Refused, Window};
 
 /// So many octets.
 #[inline(always)]
@@ -60,4 +63,25 @@ pub(crate) fn read_sized(i: &[u8]) -> Result<(&[u8], &[u8]), Err<BerError>>
     }
     let (octets, rest) = rest.split_at(length);
     Ok((rest, octets))
+}
+
+/// The same in a window, and the octets as one.
+#[inline(always)]
+#[tactic(auto, unfolding(crate::specs::Octets::sized, crate::specs::Octets::fixed))]
+pub(crate) fn read_sized_in<'a, L: Outside>(
+    i: &Window<'a, L>,
+) -> Result<(&'a [u8], Window<'a, L>), Refused<BerError, L>>
+    ensures reads { GivesAt (λ x. (x.0.now, bytes_in x.1)) sized L.adds (bytes_in i.now) (outside_in i.now) result }
+    ensures outer { IfOk result (λ x. outside_in x.1 ≡ L.adds (length x.0.now) (outside_in i.now)) }
+{
+    let (rest, length) = match read_u16(i.bytes()) {
+        Ok(read) => read,
+        Err(why) => return Err(i.refuse_at(i.bytes(), why)),
+    };
+    let length = usize::from(length);
+    if rest.len() < length {
+        return Err(i.refuse_at(rest, Err::Incomplete));
+    }
+    let (octets, rest) = rest.split_at(length);
+    Ok((rest, i.inner(octets, rest)))
 }

@@ -4,15 +4,18 @@ ghost use Rattle.std.specs.Prelude.{◌≡◌, true, List, map, IfOk};
 ghost use Rattle.x509_der.specs.declared.error.BerError.TheVariants as ber;
 ghost use Rattle.x509_der.specs.Plan.{run, run1, marks_of_members};
 ghost use Rattle.x509_der.specs.Primitives.{is_primitive};
-ghost use Rattle.x509_der.specs.Promises.{is_ber_memory, Answers, ReadsExactly, empty_run};
+ghost use Rattle.x509_der.specs.Promises.{is_ber_memory, Answers, ReadsExactly, empty_run, AnswersAt};
 ghost use Rattle.x509_der.specs.Reading.{strict};
 ghost use Rattle.x509_timestamps.specs.Timestamp.{timestamp_of, TimestampValue, timestamp};
 ghost use Rattle.x509_timestamps.specs.TimestampList.{timestamps_of, timestamps, sct_list, timestamps_laws};
+ghost use Rattle.x509_der.specs.Place.{bytes_in, outside_in};
 
-use crate::octets::read_sized;
+use crate::octets::read_sized_in;
 use crate::timestamp::{SignedCertificateTimestamp, read_timestamp};
 use std::alloc::Global;
-use x509_der::{BerError, Err, ErrorKind, FromDer, Place, Sequence, Tries};
+use x509_der::{
+    BerError, Err, ErrorKind, FromDer, Outside, Place, Refused, Sequence, Tries, Window,
+};
 
 /// The timestamps of an extension (RFC 6962, section 3.3), at least one.
 ///
@@ -51,31 +54,35 @@ fn read_entries<'a>(
 
 /// The same, where there is at least one.
 #[tactic(auto, using(x509_der::proofs::RunLoop::ending, x509_der::proofs::MarkLoop::marks_of_some))]
-fn read_some_entries<'a>(
+fn read_some_entries<'a, L: Outside>(
     alloc: Global,
-    i: &'a [u8],
-) -> Result<(&'a [u8], Sequence<SignedCertificateTimestamp<'a>>, bool), Err<BerError>>
-    ensures reads { Answers is_ber_memory true (λ x. (x.0.now, map timestamp_of x.1)) result ((run1 (empty_run ber.NomError) timestamp).read i.now) }
-    ensures marks { IfOk result (λ x. x.2 ≡ (run1 (empty_run ber.NomError) timestamp).marks i.now) }
+    i: &Window<'a, L>,
+) -> Result<(&'a [u8], Sequence<SignedCertificateTimestamp<'a>>, bool), Refused<BerError, L>>
+    ensures reads { AnswersAt is_ber_memory true (λ x. (x.0.now, map timestamp_of x.1)) (run1 (empty_run ber.NomError) timestamp) L.adds (bytes_in i.now) (outside_in i.now) result }
+    ensures marks { IfOk result (λ x. x.2 ≡ (run1 (empty_run ber.NomError) timestamp).marks (bytes_in i.now)) }
 {
-    let (rest, entries, plain) = read_entries(alloc, i)?;
+    let (rest, entries, plain) = match read_entries(alloc, i.bytes()) {
+        Ok(read) => read,
+        Err(why) => return Err(i.refuse_at(i.bytes(), why)),
+    };
     if entries.is_empty() {
-        return Err(Err::Error(BerError::NomError(ErrorKind::Many1)));
+        let why = Err::Error(BerError::NomError(ErrorKind::Many1));
+        return Err(i.refuse_at(rest, why));
     }
     Ok((rest, entries, plain))
 }
 
 /// The list at the front, and whether nothing was dropped in it.
 #[tactic(auto, unfolding(crate::specs::TimestampList::sct_list), using(crate::proofs::Plain::plain_words))]
-fn read_list<'a>(
+fn read_list<'a, L: Outside>(
     alloc: Global,
-    i: &'a [u8],
-) -> Result<(&'a [u8], Sequence<SignedCertificateTimestamp<'a>>, bool), Err<BerError>>
-    ensures reads { Answers is_ber_memory true (λ x. (x.0.now, map timestamp_of x.1)) result (sct_list.read i.now) }
-    ensures marks { IfOk result (λ x. x.2 ≡ sct_list.marks i.now) }
+    i: &Window<'a, L>,
+) -> Result<(&'a [u8], Sequence<SignedCertificateTimestamp<'a>>, bool), Refused<BerError, L>>
+    ensures reads { AnswersAt is_ber_memory true (λ x. (x.0.now, map timestamp_of x.1)) sct_list L.adds (bytes_in i.now) (outside_in i.now) result }
+    ensures marks { IfOk result (λ x. x.2 ≡ sct_list.marks (bytes_in i.now)) }
 {
-    let (rest, contents) = read_sized(i)?;
-    let (tail, entries, plain) = read_some_entries(alloc, contents)?;
+    let (rest, contents) = read_sized_in(i)?;
+    let (tail, entries, plain) = read_some_entries(alloc, &contents)?;
     Ok((rest, entries, plain & tail.is_empty()))
 }
 
@@ -101,13 +108,13 @@ impl<'a> FromDer<'a, BerError> for TimestampList<'a> {
     ghost tight = { λ _ old new. new ≡ old };
 
     #[tactic(auto, unfolding(crate::specs::TimestampList::timestamps, x509_der::specs::Leaves::octets, x509_der::specs::Primitives::contents_at), using(x509_der::proofs::Marking::marks_of_readers))]
-    fn read_at(
+    fn read_at<L: Outside>(
         alloc: Global,
         _tries: &mut Tries,
-        place: &Place<'a>,
-    ) -> Result<(Self, bool), Err<BerError>> {
+        place: &Place<'a, L>,
+    ) -> Result<(Self, bool), Refused<BerError, L>> {
         let contents = place.octets()?;
-        let (tail, timestamps, plain) = read_list(alloc, contents)?;
+        let (tail, timestamps, plain) = read_list(alloc, &place.window(contents))?;
         Ok((TimestampList { timestamps }, plain & tail.is_empty()))
     }
 

@@ -8,7 +8,7 @@ ghost use Rattle.x509_der.specs.Reading.{strict};
 ghost use Rattle.x509_usages.specs.BasicConstraints.{BasicConstraintsValue, basic_constraints_of, basic_constraints, basic_constraints_heads, basic_constraints_laws};
 
 use std::alloc::Global;
-use x509_der::{BerError, Err, Fields, FromDer, Place, Tries};
+use x509_der::{BerError, Err, Fields, FromDer, Outside, Place, Refused, Tries};
 use x509_fields::{X509Error, sequence_at};
 
 /// Whether the subject is a certification authority, and how long the paths below it may be (RFC 5280, section 4.2.1.9).
@@ -51,17 +51,21 @@ impl<'a> FromDer<'a, X509Error> for BasicConstraints {
     ghost tight = { OneTryEach sequence };
 
     #[tactic(auto, unfolding(crate::specs::BasicConstraints::basic_constraints, crate::specs::BasicConstraints::basic_constraints_fields), using(x509_der::proofs::Marking::marks_of_readers))]
-    fn read_at(
+    fn read_at<L: Outside>(
         _alloc: Global,
         tries: &mut Tries,
-        place: &Place<'a>,
-    ) -> Result<(Self, bool), Err<X509Error>> {
+        place: &Place<'a, L>,
+    ) -> Result<(Self, bool), Refused<X509Error, L>> {
         let contents = sequence_at(place)?;
-        let fields = Fields::of(tries, contents);
+        let fields = Fields::of(tries, &contents);
         let (fields, ca) = fields.soft_bool(tries);
         let (fields, path_len_constraint) = fields.soft_u32(tries);
         if !fields.are_over() {
-            return Err(Err::Error(X509Error::Der(BerError::BerValueError)));
+            return Err(
+                fields
+                    .place
+                    .refuse(Err::Error(X509Error::Der(BerError::BerValueError))),
+            );
         }
         let constraints = BasicConstraints {
             ca: ca.unwrap_or(false),

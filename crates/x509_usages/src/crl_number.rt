@@ -6,7 +6,7 @@ ghost use Rattle.x509_der.specs.Reading.{strict};
 ghost use Rattle.x509_usages.specs.CrlNumber.{crl_number_of, crl_number, crl_number_laws};
 
 use std::alloc::Global;
-use x509_der::{Err, FromDer, Place, Tries, UnsignedBytes};
+use x509_der::{FromDer, Outside, Place, Refused, Tries, UnsignedBytes};
 use x509_fields::X509Error;
 
 /// The number of a list of revoked certificates, which grows from list to list (RFC 5280, section 5.2.3).
@@ -39,11 +39,11 @@ impl<'a> FromDer<'a, X509Error> for CRLNumber<'a> {
     ghost takes_memory = { false };
 
     #[tactic(auto, unfolding(crate::specs::CrlNumber::crl_number, x509_der::specs::Leaves::unsigned, x509_der::specs::Primitives::contents_at), using(x509_der::proofs::Marking::marks_of_readers))]
-    fn read_at(
+    fn read_at<L: Outside>(
         _alloc: Global,
         _tries: &mut Tries,
-        place: &Place<'a>,
-    ) -> Result<(Self, bool), Err<X509Error>> {
+        place: &Place<'a, L>,
+    ) -> Result<(Self, bool), Refused<X509Error, L>> {
         let number = place.unsigned().map_err(|e| e.convert())?;
         Ok((CRLNumber(number), true))
     }

@@ -11,7 +11,7 @@ ghost use Rattle.x509_usages.specs.ExtendedKeyUsage.{AreBehindFirst, Usages, nam
 
 use std::alloc::Global;
 use std::collections::BTreeSet;
-use x509_der::{BerError, Err, ErrorKind, FromDer, Oid, Place, Sequence, Tries};
+use x509_der::{BerError, Err, ErrorKind, FromDer, Oid, Outside, Place, Refused, Sequence, Tries};
 use x509_fields::{TryClone, X509Error, sequence_at};
 use x509_parts::list_error;
 
@@ -40,11 +40,11 @@ impl<'a> FromDer<'a, BerError> for KeyPurpose<'a> {
     ghost takes_memory = { false };
 
     #[tactic(auto, unfolding(crate::specs::ExtendedKeyUsage::key_purpose, x509_der::specs::Leaves::oid, x509_der::specs::Primitives::contents_at), using(x509_der::proofs::Marking::marks_of_readers))]
-    fn read_at(
+    fn read_at<L: Outside>(
         _alloc: Global,
         _tries: &mut Tries,
-        place: &Place<'a>,
-    ) -> Result<(Self, bool), Err<BerError>> {
+        place: &Place<'a, L>,
+    ) -> Result<(Self, bool), Refused<BerError, L>> {
         let id = place.oid()?;
         Ok((KeyPurpose { id }, true))
     }
@@ -226,15 +226,15 @@ impl<'a> FromDer<'a, X509Error> for ExtendedKeyUsage<'a> {
     ghost takes_memory = { true };
 
     #[tactic(auto, unfolding(crate::specs::ExtendedKeyUsage::extended_key_usage, crate::specs::ExtendedKeyUsage::key_purposes, crate::specs::ExtendedKeyUsage::key_purpose_run), using(x509_der::proofs::Marking::marks_of_readers))]
-    fn read_at(
+    fn read_at<L: Outside>(
         alloc: Global,
         tries: &mut Tries,
-        place: &Place<'a>,
-    ) -> Result<(Self, bool), Err<X509Error>> {
+        place: &Place<'a, L>,
+    ) -> Result<(Self, bool), Refused<X509Error, L>> {
         let contents = sequence_at(place)?;
-        let (rest, usage, plain) = read_purposes(alloc, tries, contents)?;
+        let (rest, usage, plain) = place.judge(read_purposes(alloc, tries, contents.bytes()))?;
         if !rest.is_empty() {
-            return Err(list_error(ErrorKind::Eof));
+            return Err(contents.refuse_at(rest, list_error(ErrorKind::Eof)));
         }
         Ok((usage, plain))
     }

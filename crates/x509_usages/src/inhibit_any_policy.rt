@@ -6,7 +6,7 @@ ghost use Rattle.x509_der.specs.Reading.{strict};
 ghost use Rattle.x509_usages.specs.InhibitAnyPolicy.{inhibit_any_policy, inhibit_any_policy_laws};
 
 use std::alloc::Global;
-use x509_der::{Err, FromDer, Place, Tries};
+use x509_der::{FromDer, Outside, Place, Refused, Tries};
 use x509_fields::X509Error;
 
 /// From where on the policy that stands for any other is ignored (RFC 5280, section 4.2.1.14).
@@ -44,11 +44,11 @@ impl<'a> FromDer<'a, X509Error> for InhibitAnyPolicy {
     ghost takes_memory = { false };
 
     #[tactic(auto, unfolding(crate::specs::InhibitAnyPolicy::inhibit_any_policy, x509_der::specs::Leaves::u32, x509_der::specs::Primitives::contents_at), using(x509_der::proofs::Marking::marks_of_readers))]
-    fn read_at(
+    fn read_at<L: Outside>(
         _alloc: Global,
         _tries: &mut Tries,
-        place: &Place<'a>,
-    ) -> Result<(Self, bool), Err<X509Error>> {
+        place: &Place<'a, L>,
+    ) -> Result<(Self, bool), Refused<X509Error, L>> {
         let skip_certs = place.u32().map_err(|e| e.convert())?;
         Ok((InhibitAnyPolicy { skip_certs }, true))
     }

@@ -7,7 +7,7 @@ ghost use Rattle.x509_fields.specs.Times.{Time, time_of};
 ghost use Rattle.x509_usages.specs.InvalidityDate.{invalidity_date_of, date_in, invalidity_date, invalidity_date_laws};
 
 use std::alloc::Global;
-use x509_der::{BerError, Class, Err, FromDer, Place, Tries};
+use x509_der::{BerError, Class, Err, FromDer, Outside, Place, Refused, Tries};
 use x509_fields::{ASN1Time, X509Error, generalized_time};
 
 /// Since when the private key is held to be known to others, or the certificate to be invalid (RFC 5280, section 5.3.2).
@@ -42,19 +42,19 @@ impl<'a> FromDer<'a, X509Error> for InvalidityDate {
     ghost takes_memory = { false };
 
     #[tactic(auto, unfolding(crate::specs::InvalidityDate::invalidity_date, crate::specs::InvalidityDate::generalized_date, x509_der::specs::Leaves::any, x509_der::specs::Primitives::contents_at), using(x509_der::proofs::Marking::marks_of_readers))]
-    fn read_at(
+    fn read_at<L: Outside>(
         _alloc: Global,
         _tries: &mut Tries,
-        place: &Place<'a>,
-    ) -> Result<(Self, bool), Err<X509Error>> {
+        place: &Place<'a, L>,
+    ) -> Result<(Self, bool), Refused<X509Error, L>> {
         let any = place.any().map_err(|e| e.convert())?;
         let header = any.header();
         if header.constructed || !matches!(header.class, Class::Universal) || header.tag.0 != 24 {
-            return Err(Err::Error(X509Error::Der(BerError::InvalidTag)));
+            return Err(place.refuse(Err::Error(X509Error::Der(BerError::InvalidTag))));
         }
         match dated(any.as_bytes()) {
             Some(date) => Ok((InvalidityDate(date), true)),
-            None => Err(Err::Error(X509Error::Der(BerError::BerValueError))),
+            None => Err(place.refuse(Err::Error(X509Error::Der(BerError::BerValueError)))),
         }
     }
 

@@ -10,7 +10,7 @@ ghost use Rattle.x509_usages.specs.KeyUsage.{key_usage_of, key_usage, key_usage_
 
 use std::alloc::Global;
 use std::fmt;
-use x509_der::{Err, FromDer, Place, Tries};
+use x509_der::{FromDer, Outside, Place, Refused, Tries};
 use x509_fields::X509Error;
 use x509_parts::{BitNames, FlagNames, flags_of, is_set};
 
@@ -152,11 +152,11 @@ impl<'a> FromDer<'a, X509Error> for KeyUsage {
     ghost takes_memory = { false };
 
     #[tactic(auto, unfolding(crate::specs::KeyUsage::key_usage, x509_der::specs::Leaves::bits, x509_der::specs::Primitives::contents_at), using(x509_der::proofs::Marking::marks_of_readers))]
-    fn read_at(
+    fn read_at<L: Outside>(
         _alloc: Global,
         _tries: &mut Tries,
-        place: &Place<'a>,
-    ) -> Result<(Self, bool), Err<X509Error>> {
+        place: &Place<'a, L>,
+    ) -> Result<(Self, bool), Refused<X509Error, L>> {
         let bits = place.bits().map_err(|e| e.convert())?;
         let flags = flags_of(&bits);
         Ok((KeyUsage { flags }, true))

@@ -10,7 +10,7 @@ ghost use Rattle.x509_usages.specs.NsCertType.{ns_cert_type_of, octet_flags, ns_
 
 use std::alloc::Global;
 use std::fmt;
-use x509_der::{BerError, Err, FromDer, Place, Tries};
+use x509_der::{BerError, Err, FromDer, Outside, Place, Refused, Tries};
 use x509_fields::X509Error;
 use x509_parts::{BitNames, FlagNames, is_set};
 
@@ -143,15 +143,15 @@ impl<'a> FromDer<'a, X509Error> for NSCertType {
     ghost takes_memory = { false };
 
     #[tactic(auto, unfolding(crate::specs::NsCertType::ns_cert_type, crate::specs::NsCertType::octet_of_bits, x509_der::specs::Leaves::bits, x509_der::specs::Primitives::contents_at), using(x509_der::proofs::Marking::marks_of_readers))]
-    fn read_at(
+    fn read_at<L: Outside>(
         _alloc: Global,
         _tries: &mut Tries,
-        place: &Place<'a>,
-    ) -> Result<(Self, bool), Err<X509Error>> {
+        place: &Place<'a, L>,
+    ) -> Result<(Self, bool), Refused<X509Error, L>> {
         let bits = place.bits().map_err(|e| e.convert())?;
         match octet_flags(bits.bytes) {
             Some(flags) => Ok((NSCertType { flags }, true)),
-            None => Err(Err::Error(X509Error::Der(BerError::BerValueError))),
+            None => Err(place.refuse(Err::Error(X509Error::Der(BerError::BerValueError)))),
         }
     }
 

@@ -7,7 +7,8 @@ ghost use Rattle.x509_usages.specs.Policies.{PolicyQualifierValue, policy_qualif
 
 use std::alloc::Global;
 use x509_der::{
-    BerError, Err, Fields, FromDer, Oid, Place, Sequence, Tries, read_run1, read_to_end,
+    BerError, Fields, FromDer, Oid, Outside, Place, Refused, Sequence, Tries, read_run1,
+    read_to_end,
 };
 use x509_fields::{TryClone, X509Error, sequence_at};
 
@@ -48,13 +49,13 @@ impl<'a> FromDer<'a, BerError> for PolicyQualifierInfo<'a> {
     ghost takes_memory = { false };
 
     #[tactic(auto, unfolding(crate::specs::Policies::policy_qualifier), using(x509_der::proofs::Marking::marks_of_readers))]
-    fn read_at(
+    fn read_at<L: Outside>(
         _alloc: Global,
         tries: &mut Tries,
-        place: &Place<'a>,
-    ) -> Result<(Self, bool), Err<BerError>> {
+        place: &Place<'a, L>,
+    ) -> Result<(Self, bool), Refused<BerError, L>> {
         let contents = place.sequence()?;
-        let fields = Fields::of(tries, contents);
+        let fields = Fields::of(tries, &contents);
         let policy_qualifier_id = fields.place.oid()?;
         let info = PolicyQualifierInfo {
             policy_qualifier_id,
@@ -92,13 +93,13 @@ impl<'a> FromDer<'a, BerError> for PolicyQualifiers<'a> {
     ghost takes_memory = { true };
 
     #[tactic(auto, unfolding(crate::specs::Policies::policy_qualifiers), using(x509_der::proofs::Marking::marks_of_readers))]
-    fn read_at(
+    fn read_at<L: Outside>(
         alloc: Global,
         tries: &mut Tries,
-        place: &Place<'a>,
-    ) -> Result<(Self, bool), Err<BerError>> {
+        place: &Place<'a, L>,
+    ) -> Result<(Self, bool), Refused<BerError, L>> {
         let contents = place.sequence()?;
-        let (tail, list, plain) = read_run1(alloc, tries, contents)?;
+        let (tail, list, plain) = read_run1(alloc, tries, &contents)?;
         Ok((PolicyQualifiers { list }, plain & tail.is_empty()))
     }
 
@@ -144,13 +145,13 @@ impl<'a> FromDer<'a, BerError> for PolicyInformation<'a> {
     ghost takes_memory = { true };
 
     #[tactic(auto, unfolding(crate::specs::Policies::policy), using(x509_der::proofs::Marking::marks_of_readers))]
-    fn read_at(
+    fn read_at<L: Outside>(
         alloc: Global,
         tries: &mut Tries,
-        place: &Place<'a>,
-    ) -> Result<(Self, bool), Err<BerError>> {
+        place: &Place<'a, L>,
+    ) -> Result<(Self, bool), Refused<BerError, L>> {
         let contents = place.sequence()?;
-        let fields = Fields::of(tries, contents);
+        let fields = Fields::of(tries, &contents);
         let (fields, policy_id) = fields.oid(tries)?;
         let (fields, qualifiers) = fields.soft(alloc, tries)?;
         let policy_qualifiers = qualifiers.map(|q: PolicyQualifiers| q.list);
@@ -212,14 +213,14 @@ impl<'a> FromDer<'a, X509Error> for PolicyList<'a> {
     ghost takes_memory = { true };
 
     #[tactic(auto, unfolding(crate::specs::Policies::policies, crate::specs::Policies::policy_run), using(x509_der::proofs::Marking::marks_of_readers))]
-    fn read_at(
+    fn read_at<L: Outside>(
         alloc: Global,
         tries: &mut Tries,
-        place: &Place<'a>,
-    ) -> Result<(Self, bool), Err<X509Error>> {
+        place: &Place<'a, L>,
+    ) -> Result<(Self, bool), Refused<X509Error, L>> {
         let contents = sequence_at(place)?;
-        let (policies, plain) = read_to_end::<BerError, PolicyInformation<'a>>(
-            alloc, tries, contents,
+        let (policies, plain) = read_to_end::<BerError, PolicyInformation<'a>, L>(
+            alloc, tries, &contents,
         ).map_err(|e| e.convert())?;
         Ok((PolicyList { policies }, plain))
     }

@@ -8,7 +8,7 @@ ghost use Rattle.x509_der.specs.Reading.{strict};
 ghost use Rattle.x509_usages.specs.PolicyConstraints.{PolicyConstraintsValue, policy_constraints_of, policy_constraints, policy_constraints_heads, policy_constraints_laws};
 
 use std::alloc::Global;
-use x509_der::{BerError, Err, ErrorKind, Fields, FromDer, Place, Tries};
+use x509_der::{BerError, Err, ErrorKind, Fields, FromDer, Outside, Place, Refused, Tries};
 use x509_fields::{X509Error, sequence_at};
 
 /// From where on a path needs a policy, and from where on policies may not be mapped (RFC 5280, section 4.2.1.11).
@@ -52,18 +52,18 @@ impl<'a> FromDer<'a, X509Error> for PolicyConstraints {
     ghost tight = { OneTryEach sequence };
 
     #[tactic(auto, unfolding(crate::specs::PolicyConstraints::policy_constraints, crate::specs::PolicyConstraints::policy_constraints_fields), using(x509_der::proofs::Marking::marks_of_readers))]
-    fn read_at(
+    fn read_at<L: Outside>(
         _alloc: Global,
         tries: &mut Tries,
-        place: &Place<'a>,
-    ) -> Result<(Self, bool), Err<X509Error>> {
+        place: &Place<'a, L>,
+    ) -> Result<(Self, bool), Refused<X509Error, L>> {
         let contents = sequence_at(place)?;
-        let fields = Fields::of(tries, contents);
+        let fields = Fields::of(tries, &contents);
         let (fields, require_explicit_policy) = fields.soft_implicit_u32(tries, 0);
         let (fields, inhibit_policy_mapping) = fields.soft_implicit_u32(tries, 1);
         if !fields.are_over() {
             let why = BerError::NomError(ErrorKind::Eof);
-            return Err(Err::Error(X509Error::Der(why)));
+            return Err(fields.place.refuse(Err::Error(X509Error::Der(why))));
         }
         let constraints = PolicyConstraints {
             require_explicit_policy,

@@ -12,7 +12,9 @@ ghost use Rattle.x509_usages.specs.PolicyMapping.{PolicyMappingValue, policy_map
 use std::alloc::Global;
 use std::collections::HashMap;
 use std::hash::BuildHasher;
-use x509_der::{BerError, Err, Fields, FromDer, Oid, Place, Sequence, Tries, read_to_end};
+use x509_der::{
+    BerError, Fields, FromDer, Oid, Outside, Place, Refused, Sequence, Tries, read_to_end,
+};
 use x509_fields::{TryClone, X509Error, sequence_at};
 use x509_parts::add_to_group;
 
@@ -65,13 +67,13 @@ impl<'a> FromDer<'a, BerError> for PolicyMapping<'a> {
     ghost takes_memory = { false };
 
     #[tactic(auto, unfolding(crate::specs::PolicyMapping::policy_mapping), using(x509_der::proofs::Marking::marks_of_readers))]
-    fn read_at(
+    fn read_at<L: Outside>(
         _alloc: Global,
         tries: &mut Tries,
-        place: &Place<'a>,
-    ) -> Result<(Self, bool), Err<BerError>> {
+        place: &Place<'a, L>,
+    ) -> Result<(Self, bool), Refused<BerError, L>> {
         let contents = place.sequence()?;
-        let fields = Fields::of(tries, contents);
+        let fields = Fields::of(tries, &contents);
         let (fields, issuer_domain_policy) = fields.oid(tries)?;
         let subject_domain_policy = fields.place.oid()?;
         let mapping = PolicyMapping {
@@ -171,14 +173,14 @@ impl<'a> FromDer<'a, X509Error> for PolicyMappings<'a> {
     ghost takes_memory = { true };
 
     #[tactic(auto, unfolding(crate::specs::PolicyMapping::policy_mappings, crate::specs::PolicyMapping::policy_mapping_list), using(x509_der::proofs::Marking::marks_of_readers))]
-    fn read_at(
+    fn read_at<L: Outside>(
         alloc: Global,
         tries: &mut Tries,
-        place: &Place<'a>,
-    ) -> Result<(Self, bool), Err<X509Error>> {
+        place: &Place<'a, L>,
+    ) -> Result<(Self, bool), Refused<X509Error, L>> {
         let contents = sequence_at(place)?;
-        let (mappings, plain) = read_to_end::<BerError, PolicyMapping<'a>>(
-            alloc, tries, contents,
+        let (mappings, plain) = read_to_end::<BerError, PolicyMapping<'a>, L>(
+            alloc, tries, &contents,
         ).map_err(|e| e.convert())?;
         Ok((PolicyMappings { mappings }, plain))
     }

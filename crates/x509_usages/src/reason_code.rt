@@ -6,7 +6,7 @@ ghost use Rattle.x509_der.specs.Reading.{strict};
 ghost use Rattle.x509_usages.specs.ReasonCode.{reason_code_of, reason_code, reason_code_laws};
 
 use std::alloc::Global;
-use x509_der::{BerError, Err, FromDer, Place, Tries};
+use x509_der::{BerError, Err, FromDer, Outside, Place, Refused, Tries};
 use x509_fields::{ReasonCode, X509Error};
 
 /// Why a certificate was revoked, as the extension of an entry says it (RFC 5280, section 5.3.1).
@@ -49,15 +49,15 @@ impl<'a> FromDer<'a, X509Error> for ReasonCodeValue {
     ghost takes_memory = { false };
 
     #[tactic(auto, unfolding(crate::specs::ReasonCode::reason_code, crate::specs::ReasonCode::reason_number, x509_der::specs::Leaves::enumerated, x509_der::specs::Primitives::contents_at), using(x509_der::proofs::Marking::marks_of_readers))]
-    fn read_at(
+    fn read_at<L: Outside>(
         _alloc: Global,
         _tries: &mut Tries,
-        place: &Place<'a>,
-    ) -> Result<(Self, bool), Err<X509Error>> {
+        place: &Place<'a, L>,
+    ) -> Result<(Self, bool), Refused<X509Error, L>> {
         let number = place.enumerated().map_err(|e| e.convert())?;
         match u8::try_from(number) {
             Ok(code @ 0..=10) => Ok((ReasonCodeValue(ReasonCode(code)), true)),
-            _ => Err(Err::Error(X509Error::Der(BerError::BerValueError))),
+            _ => Err(place.refuse(Err::Error(X509Error::Der(BerError::BerValueError)))),
         }
     }
 

@@ -1,5 +1,5 @@
 use super::Fields;
-use crate::Tries;
+use crate::{Tries, Window};
 
 const TWELVE: &[u8] =
     b"\x05\x00\x05\x00\x05\x00\x05\x00\x05\x00\x05\x00\x05\x00\x05\x00\x05\x00\x05\x00\x05\x00\x05\x00";
@@ -18,7 +18,7 @@ fn fields_one_by_one(rt: HostRuntime) {
     ];
     for (window, left, looks) in windows {
         let mut tries = Tries::new();
-        let first = Fields::of(&mut tries, window);
+        let first = Fields::of(&mut tries, &Window::whole(window));
         assert_eq!(rt; first.place.bytes().len(), left[0], "at {window:?}");
         assert_eq!(rt; tries.count(), looks[0], "at {window:?}");
         let second = first.behind(&mut tries, true);
@@ -33,7 +33,7 @@ fn fields_one_by_one(rt: HostRuntime) {
 #[test]
 fn marks_so_far(rt: HostRuntime) {
     let mut tries = Tries::new();
-    let fields = Fields::of(&mut tries, b"\x05\x00\x05\x00");
+    let fields = Fields::of(&mut tries, &Window::whole(b"\x05\x00\x05\x00"));
     assert!(rt; !fields.are_plain() && !fields.ends_here() && !fields.are_over());
     let last = fields.behind(&mut tries, true);
     assert!(rt; last.ends_here() && !last.are_plain());

@@ -5,4 +5,4 @@ use Rattle.x509_authorities.proofs.Foreign.{bits_foreign}
 use Rattle.x509_authorities.proofs.reason_flags.reasons_at.Goals as goal
 
 pub returns-clause-foreign : goal.returns-clause-foreign
-returns-clause-foreign c = λ some. bits_foreign c.args.number c.args.place.now.bytes.now (bit_string c.in_ok-bits.bits) (behind c.args.place.now.bytes.now) c.args.place.now.octets (search rules) some
+returns-clause-foreign g c = λ some. bits_foreign c.args.number c.args.place.now.bytes.now (bit_string c.in_ok-bits.bits) (behind c.args.place.now.bytes.now) c.args.place.now.octets (search rules) some

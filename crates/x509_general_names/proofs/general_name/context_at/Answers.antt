@@ -5,4 +5,4 @@ use Rattle.x509_general_names.proofs.Elements.{any_sizes}
 use Rattle.x509_general_names.proofs.general_name.context_at.Goals as goal
 
 pub returns-clause-sizes : goal.returns-clause-sizes
-returns-clause-sizes c = any_sizes c.args.place.now.bytes.now (element_of c.in_ok-any.any) (behind c.args.place.now.bytes.now) c.args.place.now.octets (search rules)
+returns-clause-sizes g c = any_sizes c.args.place.now.bytes.now (element_of c.in_ok-any.any) (behind c.args.place.now.bytes.now) c.args.place.now.octets (search rules)

@@ -8,6 +8,6 @@ use Rattle.x509_requests.proofs.attribute_parts.set_at.Goals as goal
 
 pub returns-clause-sizes : goal.returns-clause-sizes
 unfolding any
-returns-clause-sizes c =
-    let read : element_at strict (at c.args.place.now) ≡ Ok (behind (at c.args.place.now), element_of c.in_ok-element.element) = search rules in
-    element_sizes (at c.args.place.now) (element_of c.in_ok-element.element) (behind (at c.args.place.now)) c.args.place.now.octets read
+returns-clause-sizes g c =
+    let read : element_at strict (at c.args.place.now) ≡ Ok (behind (at c.args.place.now), element_of c.in-Ok.element) = search rules in
+    element_sizes (at c.args.place.now) (element_of c.in-Ok.element) (behind (at c.args.place.now)) c.args.place.now.octets read

@@ -7,9 +7,9 @@ use Rattle.x509_authorities.proofs.authority_key_identifier.AuthorityKeyIdentifi
 
 pub returns-clause-reads : goal.returns-clause-reads
 unfolding authority_key_identifier
-returns-clause-reads c =
-    let first = soft_renamed (refusal_by as_x509) _ _ _ _ c.soft_implicit.ensures.reads in
-    let third = soft_renamed (refusal_by as_x509) _ _ _ _ c.soft_implicit-2.ensures.reads in
+returns-clause-reads g c =
+    let first = soft_renamed (refusal_by as_x509) _ _ _ _ c.soft_implicit-fields.ensures.reads in
+    let third = soft_renamed (refusal_by as_x509) _ _ _ _ c.soft_implicit-fields-2.ensures.reads in
     record {
       reads = search (rules, marks_of_fields);
       marks = search (rules, marks_of_fields, first, third);

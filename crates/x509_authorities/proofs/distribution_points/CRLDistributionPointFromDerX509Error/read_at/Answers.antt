@@ -5,7 +5,19 @@ use Rattle.x509_authorities.proofs.distribution_points.CRLDistributionPointFromD
 
 pub returns-clause-reads : goal.returns-clause-reads
 unfolding crl_distribution_point
-returns-clause-reads c = record {
+returns-clause-reads g c = record {
+  reads = search (rules, marks_of_fields);
+  marks = search (rules, marks_of_fields);
+  grows = search rules;
+  count = search rules;
+  foreign = search rules;
+  least = search rules;
+  there = search rules;
+}
+
+pub returns-2-clause-reads : goal.returns-2-clause-reads
+unfolding crl_distribution_point
+returns-2-clause-reads g c = record {
   reads = search (rules, marks_of_fields);
   marks = search (rules, marks_of_fields);
   grows = search rules;

@@ -13,12 +13,12 @@ use Rattle.x509_authorities.proofs.issuing_distribution_point.IssuingDistributio
 
 pub returns-clause-reads : goal.returns-clause-reads
 unfolding issuing_distribution_point
-returns-clause-reads c =
-    let user = c.soft_bool-user_certs.ensures in
-    let ca = c.soft_bool-ca_certs.ensures in
-    let reasons = c.soft_reasons-only_some_reasons.ensures.reads in
-    let indirect = c.soft_bool-indirect_crl.ensures in
-    let attribute = c.soft_bool-attribute_certs.ensures in
+returns-clause-reads g c =
+    let user = c.soft_bool-fields.ensures in
+    let ca = c.soft_bool-fields-2.ensures in
+    let reasons = c.soft_reasons-fields.ensures.reads in
+    let indirect = c.soft_bool-fields-3.ensures in
+    let attribute = c.soft_bool-fields-4.ensures in
     let name = option_view point_name_of c.in_ok-fields.distribution_point in
     let next = next_of c.in_ok-fields.fields in
     let same = ap length c.of-fields.ensures.place in
@@ -28,7 +28,7 @@ returns-clause-reads c =
       marks = search (rules, marks_of_fields, and_assoc);
       grows = search rules;
       count =
-          let inside : length (behind (at c.args.place.now)) + length c.in_ok-contents.contents.now + 2 ≤ length (at c.args.place.now) = search rules in
+          let inside : length (behind (at c.args.place.now)) + length c.in_ok-contents.contents.bytes.now + 2 ≤ length (at c.args.place.now) = search rules in
           let spent = field_few _ _ _ _ _ counted in
           let few1 = one_more _ _ _ _ user.few in
           let few2 = one_more _ _ _ _ ca.few in
@@ -46,10 +46,10 @@ returns-clause-reads c =
           let least3 = leaf_adds _ _ _ _ _ _ _ reasons.sizes reasons.grows least2 reasons.least in
           let least4 = leaf_adds _ _ _ _ _ _ _ indirect.sizes indirect.grows least3 indirect.least in
           let least5 = leaf_adds _ _ _ _ _ _ _ attribute.sizes attribute.grows least4 attribute.least in
-          let set1 = flag_within c.soft_bool-user_certs.result.1 _ c.unwrap_or.ensures in
-          let set2 = flag_within c.soft_bool-ca_certs.result.1 _ c.unwrap_or-2.ensures in
-          let set3 = flag_within c.soft_bool-indirect_crl.result.1 _ c.unwrap_or-3.ensures in
-          let set4 = flag_within c.soft_bool-attribute_certs.result.1 _ c.unwrap_or-4.ensures in
+          let set1 = flag_within c.soft_bool-fields.result.1 _ c.unwrap_or.ensures in
+          let set2 = flag_within c.soft_bool-fields-2.result.1 _ c.unwrap_or-2.ensures in
+          let set3 = flag_within c.soft_bool-fields-3.result.1 _ c.unwrap_or-3.ensures in
+          let set4 = flag_within c.soft_bool-fields-4.result.1 _ c.unwrap_or-4.ensures in
           λ short. let all = least5 short in omega (arith, all, set1, set2, set3, set4);
       there = search rules;
     }

@@ -7,9 +7,21 @@ use Rattle.x509_certs.proofs.tbs_parser.TbsCertificateParser.read_at.Goals as go
 
 pub returns-clause-reads : goal.returns-clause-reads
 unfolding tbs
-returns-clause-reads c = record {
+returns-clause-reads g c = record {
   reads = search (rules, marks_of_readers);
   marks = search (rules, marks_of_readers, issuer_uid_plain, subject_uid_plain, and_assoc);
+  grows = search rules;
+  count = search rules;
+  foreign = search rules;
+  least = search rules;
+  there = search rules;
+}
+
+pub returns-in-Err-read_wrapped_at-clause-reads : goal.returns-in-Err-read_wrapped_at-clause-reads
+unfolding tbs
+returns-in-Err-read_wrapped_at-clause-reads g c = record {
+  reads = search (rules, marks_of_readers);
+  marks = search (rules, marks_of_readers);
   grows = search rules;
   count = search rules;
   foreign = search rules;

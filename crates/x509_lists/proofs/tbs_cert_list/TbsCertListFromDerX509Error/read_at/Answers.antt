@@ -7,13 +7,13 @@ use Rattle.x509_lists.proofs.tbs_cert_list.TbsCertListFromDerX509Error.read_at.G
 
 pub returns-clause-reads : goal.returns-clause-reads
 unfolding tbs_list
-returns-clause-reads c =
+returns-clause-reads g c =
     let closing = closing_tries _ _ 0 _ _ _ _ refl c.in-Ok-soft.ensures.count c.in-Ok-soft.ensures.grows c.in-Ok-soft.ensures.foreign c.in-Ok-read_wrapped_at.ensures.count c.in-Ok-read_wrapped_at.ensures.foreign in
     record {
       reads = search (rules, marks_of_readers);
       marks = search (rules, marks_of_readers, and_assoc);
       grows = search rules;
-      count = omega (arith, closing, c.of-fields.ensures.tries.few, ap length c.of-fields.ensures.place, c.in-Ok.ensures.sizes, c.read_version-version.ensures.count, c.in_ok-contents.ensures.sizes);
+      count = omega (arith, closing, c.of-fields.ensures.tries.few, ap length c.of-fields.ensures.place, c.in-Ok.ensures.sizes, c.read_version-fields.ensures.count, c.in_ok-contents.ensures.sizes);
       foreign = search rules;
       least = search rules;
       there = search rules;
@@ -21,13 +21,13 @@ returns-clause-reads c =
 
 pub returns-in-Err-read_wrapped_at-clause-reads : goal.returns-in-Err-read_wrapped_at-clause-reads
 unfolding tbs_list
-returns-in-Err-read_wrapped_at-clause-reads c =
+returns-in-Err-read_wrapped_at-clause-reads g c =
     let closing = closing_tries _ _ 0 _ _ _ _ refl c.in-Ok-soft.ensures.count c.in-Ok-soft.ensures.grows c.in-Ok-soft.ensures.foreign c.in-Err-read_wrapped_at.ensures.count c.in-Err-read_wrapped_at.ensures.foreign in
     record {
       reads = search (rules, marks_of_readers);
       marks = search (rules, marks_of_readers);
       grows = search rules;
-      count = omega (arith, closing, c.of-fields.ensures.tries.few, ap length c.of-fields.ensures.place, c.in-Ok.ensures.sizes, c.read_version-version.ensures.count, c.in_ok-contents.ensures.sizes);
+      count = omega (arith, closing, c.of-fields.ensures.tries.few, ap length c.of-fields.ensures.place, c.in-Ok.ensures.sizes, c.read_version-fields.ensures.count, c.in_ok-contents.ensures.sizes);
       foreign = search rules;
       least = search rules;
       there = search rules;

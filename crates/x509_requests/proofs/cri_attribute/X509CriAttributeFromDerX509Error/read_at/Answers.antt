@@ -11,9 +11,9 @@ use Rattle.x509_requests.proofs.cri_attribute.X509CriAttributeFromDerX509Error.r
 
 pub returns-in-Ok-clause-reads : goal.returns-in-Ok-clause-reads
 unfolding attribute said parts_mark
-returns-in-Ok-clause-reads c =
+returns-in-Ok-clause-reads g c =
     let place = at c.args.place.now in
-    let strictly = ok_is_read (λ x. (behind place, x.now)) c.sequence.result (sequence.read place) c.is_ok-is_sequence.result c.sequence.ensures.reads c.is_ok-is_sequence.ensures.value in
+    let strictly = ok_is_read (λ x. (behind place, x.bytes.now)) sequence g.L.Outside.adds place c.args.place.now.outside c.sequence.result c.is_ok-is_sequence.result c.sequence.ensures.reads c.is_ok-is_sequence.ensures.value in
     let values : c.in-Ok.value_plain ≡ marks_of_values (kind_of (oid_bytes c.in_ok-parts.parts.oid)) (element_of c.in_ok-parts.parts.element).contents = grind (arith) in
     record {
       reads = search rules;

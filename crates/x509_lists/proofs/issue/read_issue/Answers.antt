@@ -1,0 +1,9 @@
+use Rattle.std.proofs.Common.{rules}
+use Rattle.std.proofs.Math.Bool.{and_assoc}
+use Rattle.x509_der.proofs.Marking.{marks_of_readers}
+use Rattle.x509_lists.specs.Issue.{issue}
+use Rattle.x509_lists.proofs.issue.read_issue.Goals as goal
+
+pub returns-3-clause-marks : goal.returns-3-clause-marks
+unfolding issue
+returns-3-clause-marks g c = search (rules, marks_of_readers, and_assoc)
