@@ -16,5 +16,5 @@ returns-in-Err-clause-reads g c =
     rw (c.refuse_at.ensures.why, c.refuse_at.ensures.left) (
       ap (λ (x : Outcome (Refusal BerError) ℕ). and_then x (λ n. (fixed n).read)) cut,
       ap (λ (x : Outcome (Refusal BerError) ℕ). then_stop x ((number_of 2).stop more place outside) (λ n next. (fixed n).stop more next outside)) cut
-        ∙ (number_stops 2 more place outside c.in-Err.why cut ∙ ap (λ (octets : List ℕ). more (length octets) outside) (sym c.bytes-in-Err.ensures)),
+          ∙ (number_stops 2 more place outside c.in-Err.why cut ∙ ap (λ (octets : List ℕ). more (length octets) outside) (sym c.bytes-in-Err.ensures)),
     )
