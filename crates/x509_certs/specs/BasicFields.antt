@@ -5,14 +5,14 @@ use Rattle.x509_der.specs.Promises.{option_view, option_heads}
 use Rattle.x509_fields.specs.Errors.{is_x509_memory}
 use Rattle.x509_fields.specs.Algorithm.{algorithm, algorithm_laws, Algorithm, algorithm_of, algorithm_heads}
 use Rattle.x509_fields.specs.Fields.{Field}
-use Rattle.x509_fields.specs.Names.{name, name_laws, Name, name_of, name_heads}
+use Rattle.x509_names.specs.Names.{name, name_laws, Name, name_of, name_heads}
 use Rattle.x509_fields.specs.Version.{version}
 use Rattle.x509_keys.specs.KeyInfo.{key_info, KeyInfo, key_info_of, key_info_heads}
 use Rattle.x509_certs.specs.Validity.{Period, validity, validity_laws, period_of, period_heads}
 use Rattle.x509_der.specs.Laws.{IsMarkedField, Anywhere}
 use Rattle.x509_der.proofs.Marking.{marked}
 use Rattle.x509_keys.specs.Laws.{key_info_laws}
-use Rattle.x509_signed.specs.Serial.{serial, serial_laws}
+use Rattle.x509_fields.specs.Serial.{serial, serial_laws}
 use Rattle.x509_certs.specs.ExplicitVersion.{explicit_version, explicit_version_laws}
 use Rattle.x509_certs.specs.declared.basic_fields.BasicFields.{BasicFields as Basic}
 

@@ -8,8 +8,8 @@ use Rattle.x509_fields.specs.declared.error.X509Error.TheVariants as x509
 use Rattle.x509_fields.specs.Errors.{is_x509_memory}
 use Rattle.x509_fields.specs.Algorithm.{algorithm_of}
 use Rattle.x509_fields.specs.Fields.{Field}
-use Rattle.x509_signed.specs.Signed.{Signed, signed, signed_heads, signed_laws, HoldsPart, SignedStands}
-use Rattle.x509_certs.specs.TbsCertificate.{Tbs, tbs, tbs_laws, tbs_of, looks_at_values, tbs_at_depth, tbs_heads}
+use Rattle.x509_fields.specs.Signed.{Signed, signed, signed_heads, signed_laws, HoldsPart, SignedStands}
+use Rattle.x509_certs.specs.TbsCertificate.{Tbs, tbs, tbs_laws, tbs_of, tbs_at_depth, tbs_heads}
 use Rattle.x509_der.proofs.Marked.{strictly_if_laws}
 use Rattle.x509_der.specs.Laws.{IsElement, IsMarkedElement}
 use Rattle.x509_certs.specs.declared.certificate.X509Certificate.{X509Certificate}
@@ -31,7 +31,7 @@ certificate_of c = record {
 -- ---- depth and strictness
 
 abbrev pub is_deep : X509CertificateParser → Bool
-is_deep p = looks_at_values p.tbs_parser
+is_deep p = p.reader.extensions.deep_parse_extensions
 
 -- whether a reader takes plain certificates alone
 abbrev pub is_strict : X509CertificateParser → Bool

@@ -2,7 +2,7 @@
 use Rattle.std.specs.Prelude.{Bool, false, Option, Some, None, Result, Ok, Err}
 use Rattle.std.specs.Borrow.{Bor}
 use Rattle.x509_fields.specs.declared.error.X509Error.{X509Error}
-use Rattle.x509_usages.specs.declared.basic_constraints.BasicConstraints.{BasicConstraints}
+use Rattle.x509_values.specs.declared.basic_constraints.BasicConstraints.{BasicConstraints}
 use Rattle.x509_certs.specs.declared.basic_extension.BasicExtension.{BasicExtension}
 
 -- what the reference points at

@@ -1,15 +1,17 @@
 -- The part of a certificate that is signed (RFC 5280, 4.1.2).
-use Rattle.std.specs.Prelude.{◌≡◌, ◌++◌, ℕ, List, Bool, Option, unwrap_or, ◌+◌, map}
+use Rattle.std.specs.Prelude.{◌≡◌, ◌++◌, ℕ, List, Bool, false, Option, unwrap_or, ◌+◌, map}
+use Rattle.x509_der.specs.declared.error.Err.{Err as Refusal}
 use Rattle.x509_der.specs.declared.error.Err.TheVariants.{Error}
 use Rattle.x509_der.specs.Digits.{without_leading_zeros}
 use Rattle.x509_der.specs.Primitives.{Bits}
 use Rattle.x509_der.specs.Plan.{◌>>=◌, got, give, strictly_if, with_bytes}
 use Rattle.x509_der.specs.Promises.{IsFront, option_view}
+use Rattle.x509_fields.specs.declared.error.X509Error.{X509Error}
 use Rattle.x509_fields.specs.declared.error.X509Error.TheVariants as x509
 use Rattle.x509_fields.specs.Errors.{is_x509_memory}
 use Rattle.x509_fields.specs.Algorithm.{Algorithm, algorithm_of, algorithm_heads}
 use Rattle.x509_fields.specs.Fields.{Field, sequence, as_x509_renames}
-use Rattle.x509_fields.specs.Names.{Name, name_of, name_heads}
+use Rattle.x509_names.specs.Names.{Name, name_of, name_heads}
 use Rattle.x509_keys.specs.KeyInfo.{KeyInfo, key_info_of, key_info_heads}
 use Rattle.x509_extensions.specs.ExtensionList.{wrapped_extensions, wrapped_extensions_laws, wrapped_heads}
 use Rattle.x509_certs.specs.Validity.{Period, period_of, period_heads}
@@ -60,7 +62,7 @@ tbs_of t = record {
 -- ---- depth and strictness
 
 abbrev pub looks_at_values : TbsCertificateParser → Bool
-looks_at_values p = p.extension_parser.deep_parse_extensions
+looks_at_values p = p.reader.extensions.deep_parse_extensions
 
 -- whether a reader takes plain signed parts alone
 abbrev pub takes_plain_alone : TbsCertificateParser → Bool
@@ -108,6 +110,12 @@ tbs deep = with_bytes (sequence do
 
 abbrev pub tbs_by : Bool → Bool → Field Tbs
 tbs_by deep strictly = strictly_if strictly (Error x509.Generic) (tbs deep)
+
+-- ---- a signed part that was refused
+
+-- what is refused at one depth is refused at every other
+abbrev pub RefusedAtAnyDepth : {A : Type 0} → (Bool → Field A) → List ℕ → Refusal X509Error → Type 0
+RefusedAtAnyDepth grammar bytes why = (deep : Bool) → (left : ℕ) × (grammar deep).Refuses bytes why left
 
 -- ---- a signed part that was read
 

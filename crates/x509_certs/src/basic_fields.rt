@@ -12,9 +12,9 @@ use crate::explicit_version::read_version;
 use crate::validity::Validity;
 use std::alloc::Global;
 use x509_der::{Err, Fields, Outside, Refused, Tries, Window};
-use x509_fields::{AlgorithmIdentifier, X509Error, X509Name, X509Version, sequence_at};
+use x509_fields::{AlgorithmIdentifier, X509Error, X509Version, read_serial, sequence_at};
 use x509_keys::SubjectPublicKeyInfo;
-use x509_signed::read_serial;
+use x509_names::X509Name;
 
 /// The fields before those that the second and third versions add.
 #[derive(Drop)]

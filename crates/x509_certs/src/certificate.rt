@@ -12,10 +12,11 @@ use crate::certificate_parser::X509CertificateParser;
 use crate::tbs_certificate::TbsCertificate;
 use crate::validity::Validity;
 use std::alloc::Global;
-use x509_der::{BitString, FromDer, Outside, Place, Refused, Tries};
+use x509_der::{BitString, FromDer, Outside, Place, Reader, Refused, Tries};
 use x509_extensions::{ExtensionIter, X509Extension};
-use x509_fields::{AlgorithmIdentifier, TryClone, X509Error, X509Name, X509Version};
+use x509_fields::{AlgorithmIdentifier, TryClone, X509Error, X509Version};
 use x509_keys::SubjectPublicKeyInfo;
+use x509_names::X509Name;
 
 /// A certificate (RFC 5280, section 4.1.1). Its signature is not looked into.
 ///

@@ -7,7 +7,7 @@ ghost use Rattle.std.specs.Option.{option_copied};
 ghost use Rattle.x509_der.specs.Oid.{oid_bytes};
 ghost use Rattle.x509_der.specs.declared.oid.Oid.{Oid as OidOf};
 ghost use Rattle.x509_fields.specs.declared.error.X509Error.TheVariants.{OutOfMemory, DuplicateExtensions};
-ghost use Rattle.x509_objects.specs.Objects as objects;
+ghost use Rattle.x509_names.specs.Objects as objects;
 ghost use Rattle.x509_extensions.specs.Lookups.{has_oid, oid_eq, unique_of, pointed, all_distinct, typed, typed_or_none, basic_constraints_in, key_usage_in, extended_key_usage_in, policy_constraints_in, inhibit_any_policy_in, policy_mappings_in, subject_names_in, name_constraints_in};
 ghost use Rattle.x509_certs.specs.LookUps.{found, says_ca};
 
@@ -19,14 +19,14 @@ use std::collections::HashMap;
 use std::hash::BuildHasher;
 use x509_der::Oid;
 use x509_extensions::{ParsedExtension, X509Extension};
-use x509_fields::{
+use x509_fields::X509Error;
+use x509_general_names::{NameConstraints, SubjectAlternativeName};
+use x509_names::{
     OID_X509_EXT_BASIC_CONSTRAINTS, OID_X509_EXT_EXTENDED_KEY_USAGE,
     OID_X509_EXT_INHIBIT_ANY_POLICY, OID_X509_EXT_KEY_USAGE, OID_X509_EXT_NAME_CONSTRAINTS,
     OID_X509_EXT_POLICY_CONSTRAINTS, OID_X509_EXT_POLICY_MAPPINGS, OID_X509_EXT_SUBJECT_ALT_NAME,
-    X509Error,
 };
-use x509_general_names::{NameConstraints, SubjectAlternativeName};
-use x509_usages::{
+use x509_values::{
     BasicConstraints, ExtendedKeyUsage, InhibitAnyPolicy, KeyUsage, PolicyConstraints,
     PolicyMappings,
 };

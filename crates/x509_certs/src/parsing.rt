@@ -1,14 +1,15 @@
 //! Reading whole certificates.
 
-ghost use Rattle.std.specs.Prelude.{◌≡◌, ℕ, Bool, true, false, IfOk, IfErr};
-ghost use Rattle.x509_der.specs.Promises.{Answers, ReadsExactly, ReadsWhere, is_excused};
+ghost use Rattle.std.specs.Prelude.{◌≡◌, true, false, [], IfOk, IfErr};
+ghost use Rattle.x509_der.specs.Promises.{Answers, IsFront, ReadsExactly, ReadsWhere, is_excused};
 ghost use Rattle.x509_fields.specs.Errors.{is_x509_memory};
 ghost use Rattle.x509_certs.specs.Certificate.{certificate_of, CertificateStands, certificate, certificate_by};
+ghost use Rattle.x509_certs.specs.TbsCertificate.{RefusedAtAnyDepth, tbs_by};
 
 use crate::certificate::X509Certificate;
 use crate::certificate_parser::X509CertificateParser;
 use std::alloc::Global;
-use x509_der::{Err, FromDer, Located, Tries};
+use x509_der::{Err, FromDer, Located, Reader, Tries};
 use x509_fields::{X509Error, X509Result};
 
 /// Reads the certificate at the front of the bytes, with what the values of its extensions say, and gives what stands
@@ -20,7 +21,7 @@ use x509_fields::{X509Error, X509Result};
 pub fn parse_x509_certificate<'a>(alloc: Global, i: &'a [u8]) -> X509Result<'a, X509Certificate<'a>>
     ensures exact { ReadsExactly is_x509_memory true (λ x. (x.0.now, certificate_of x.1)) (certificate true) i.now result }
     ensures stands { IfOk result (λ x. CertificateStands true i.now (certificate_of x.1) x.0.now) }
-    ensures refused_at_any_depth { IfErr result (λ e. is_excused is_x509_memory true e ≡ false → (deep : Bool) → (left : ℕ) × (certificate deep).Refuses i.now e left) }
+    ensures refused_at_any_depth { IfErr result (λ e. is_excused is_x509_memory true e ≡ false → RefusedAtAnyDepth certificate i.now e) }
 {
     X509CertificateParser::new().parse(alloc, i)
 }
@@ -53,6 +54,8 @@ pub fn parse_x509_certificate_strict<'a>(
 ) -> X509Result<'a, X509Certificate<'a>>
     ensures exact { ReadsExactly is_x509_memory true (λ x. (x.0.now, certificate_of x.1)) (certificate_by true true) i.now result }
     ensures stands { IfOk result (λ x. CertificateStands true i.now (certificate_of x.1) x.0.now) }
+    // Its signed part's window is taken back by a strict reader of signed parts.
+    ensures strict_part { IfOk result (λ x. IsFront (tbs_by true true) (certificate_of x.1).tbs.raw (certificate_of x.1).tbs []) }
 {
     X509CertificateParser::new()
         .with_strict(true)
@@ -63,7 +66,7 @@ pub fn parse_x509_certificate_strict<'a>(
 pub fn parse_x509_der<'a>(alloc: Global, i: &'a [u8]) -> X509Result<'a, X509Certificate<'a>>
     ensures exact { ReadsExactly is_x509_memory true (λ x. (x.0.now, certificate_of x.1)) (certificate true) i.now result }
     ensures stands { IfOk result (λ x. CertificateStands true i.now (certificate_of x.1) x.0.now) }
-    ensures refused_at_any_depth { IfErr result (λ e. is_excused is_x509_memory true e ≡ false → (deep : Bool) → (left : ℕ) × (certificate deep).Refuses i.now e left) }
+    ensures refused_at_any_depth { IfErr result (λ e. is_excused is_x509_memory true e ≡ false → RefusedAtAnyDepth certificate i.now e) }
 {
     parse_x509_certificate(alloc, i)
 }

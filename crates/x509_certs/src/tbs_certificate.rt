@@ -12,10 +12,11 @@ use crate::tbs_parser::TbsCertificateParser;
 use crate::unique_identifier::UniqueIdentifier;
 use crate::validity::Validity;
 use std::alloc::Global;
-use x509_der::{FromDer, Outside, Place, Refused, Sequence, Tries, UnsignedBytes};
+use x509_der::{FromDer, Outside, Place, Reader, Refused, Sequence, Tries, UnsignedBytes};
 use x509_extensions::{ExtensionIter, X509Extension};
-use x509_fields::{AlgorithmIdentifier, TryClone, X509Error, X509Name, X509Version, format_serial};
+use x509_fields::{AlgorithmIdentifier, TryClone, X509Error, X509Version, format_serial};
 use x509_keys::SubjectPublicKeyInfo;
+use x509_names::X509Name;
 
 /// The part of a certificate that is signed (RFC 5280, section 4.1.2).
 ///

@@ -28,3 +28,4 @@ pub mod Octets
 pub mod Rulesets
 pub mod Walk
 pub mod Steps
+pub mod Strict

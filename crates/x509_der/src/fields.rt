@@ -1,6 +1,6 @@
 //! The fields of a container, one behind the other, each looked at when the cursor comes to it.
 
-ghost use Rattle.std.specs.Prelude.{◌≡◌, ◌≤◌, ◌+◌, ◌&&◌, true, min, length, List, ℕ};
+ghost use Rattle.std.specs.Prelude.{◌≡◌, ◌≤◌, ◌+◌, ◌*◌, ◌&&◌, true, false, min, length, List, ℕ, IfOk};
 ghost use Rattle.x509_der.specs.Cut.{Cut};
 ghost use Rattle.x509_der.specs.Fields.{next_of, outer_of, plain_in, ahead, LooksOnce, ReadsLast, ReadsNext, ReadsSoft, StepsLeaf, StepsSoftLeaf};
 ghost use Rattle.x509_der.specs.Integer.{integer_bytes};
@@ -13,11 +13,12 @@ ghost use Rattle.x509_der.specs.Promises.{option_view};
 ghost use Rattle.x509_der.specs.Reading.{AddsAtLeast, Element, TriesOnce};
 
 use crate::error::{BerError, ReadError, Refused};
-use crate::from_der::{FromDer, ReadAt};
+use crate::from_der::FromDer;
 use crate::integer::Integer;
 use crate::oid::Oid;
 use crate::outside::Outside;
 use crate::place::Place;
+use crate::reader::Reader;
 use crate::tries::Tries;
 use crate::window::Window;
 use std::alloc::Global;
@@ -129,9 +130,26 @@ impl<'a, L: Outside> Fields<'a, L> {
         }
     }
 
+    /// The next field, by a reader with settings.
+    #[inline(always)]
+    pub fn field_by<E: ReadError, X, R: Reader<'a, E, X>>(
+        &self,
+        reader: &R,
+        alloc: Global,
+        tries: &mut Tries,
+    ) -> Result<(Fields<'a, L>, X), Refused<E, L>>
+        ensures next { ReadsNext E.is_memory R.takes_memory R.heads (λ x. (next_of x.0, R.view x.1)) (λ x. outer_of x.0) (λ x. plain_in x.0) (R.plan reader.now) R.tight (plain_in self.now) L.adds (next_of self.now) (outer_of self.now) tries.old tries.new result }
+        ensures shallow { R.is_deep reader.now ≡ false → IfOk result (λ x. tries.new + 8 + 8 * R.unread (R.view x.1) + 8 * length (next_of x.0) ≤ tries.old + 8 * length (next_of self.now)) }
+    {
+        match reader.read_at(alloc, tries, &self.place) {
+            Ok((value, plain)) => Ok((self.behind(tries, plain), value)),
+            Err(e) => Err(e),
+        }
+    }
+
     /// The next field, by a reader with settings, which may be absent: where it doesn't read, the cursor stays.
     #[inline(always)]
-    pub fn soft_by<E: ReadError, X: Drop, R: ReadAt<'a, E, X>>(
+    pub fn soft_by<E: ReadError, X: Drop, R: Reader<'a, E, X>>(
         &self,
         reader: &R,
         alloc: Global,

@@ -118,39 +118,3 @@ pub trait FromDer<'a, E: ReadError>: Sized {
         }
     }
 }
-
-/// What reads one element by settings of its own, as a number under which it stands.
-///
-/// It gives what [`FromDer`] gives for a type, but has no laws: what it reads is a field of a structure that has them.
-pub trait ReadAt<'a, E: ReadError, X>: Sized {
-    /// What a value is, without where it lies in memory.
-    ghost Value: { Type 0 };
-
-    ghost view: { X → Value };
-
-    /// Its grammar, by the settings.
-    ghost plan: { Self → Plan (Refusal E) Value };
-
-    ghost form: { Form };
-
-    /// The headers of its own class and number.
-    ghost own_tag: { Self → Header → Bool };
-
-    ghost heads: { Value → ℕ };
-
-    ghost takes_memory: { Bool };
-
-    /// As `tight` of a type.
-    ghost tight: { List ℕ → ℕ → ℕ → Type 0 };
-
-    /// Reads the element at a place that was looked at, tells whether it stands plainly, and counts the headers that it tries
-    /// beyond that look.
-    fn read_at<L: Outside>(
-        &self,
-        alloc: Global,
-        tries: &mut Tries,
-        place: &Place<'a, L>,
-    ) -> Result<(X, bool), Refused<E, L>>
-        ensures reads { ReadsAt E.is_memory takes_memory form (own_tag self.now) heads view (plan self.now) L.adds (at place.now) (outside_of place.now) tries.old tries.new result }
-        ensures tight { tight (at place.now) tries.old tries.new };
-}

@@ -1,4 +1,5 @@
-//! Elements of the distinguished encoding rules: headers, contents, and a count of the headers that were tried.
+//! Elements of the distinguished encoding rules: headers, contents, and a count of the headers that were tried. It stands
+//! on nothing but std, and knows no structure of X.509.
 #![tactic(auto)]
 
 mod any;
@@ -20,6 +21,7 @@ mod oid;
 mod outside;
 mod place;
 mod primitive;
+mod reader;
 mod run;
 mod set_of;
 mod tries;
@@ -32,7 +34,7 @@ pub use child::{Child, Stop};
 pub use children::{Children, Elements};
 pub use error::{BerError, Err, ErrorKind, Located, ReadError, Refused};
 pub use fields::Fields;
-pub use from_der::{FromDer, ReadAt};
+pub use from_der::FromDer;
 pub use front::{
     read_any, read_any_loose, read_bits, read_bool, read_bool_loose, read_enumerated,
     read_explicit, read_header, read_header_loose, read_ia5, read_implicit, read_implicit_bits,
@@ -47,6 +49,7 @@ pub use list::Sequence;
 pub use oid::Oid;
 pub use outside::{Nowhere, Outside};
 pub use place::Place;
+pub use reader::{OfType, Reader};
 pub use run::{read_run, read_run1, read_to_end};
 pub use set_of::{SetOf, read_set_of};
 pub use tries::Tries;

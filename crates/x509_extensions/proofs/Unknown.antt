@@ -5,7 +5,7 @@ use Rattle.std.specs.Option.{option_map}
 use Rattle.std.specs.Str.{bytes_eq}
 use Rattle.std.proofs.lemmas.Bool.Decides.{same_from_decides}
 use Rattle.std.proofs.lemmas.Slice.Eq.{bytes_eq-Decides}
-use Rattle.x509_objects.specs.Objects as objects
+use Rattle.x509_names.specs.Objects as objects
 use Rattle.x509_extensions.specs.declared.kind.Kind.{Kind}
 use Rattle.x509_extensions.specs.Kinds.{known, kind_of}
 

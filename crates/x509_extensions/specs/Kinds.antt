@@ -3,7 +3,7 @@ use Rattle.std.specs.Prelude.{ℕ, List, [], ◌∷◌, Option}
 use Rattle.std.specs.List.{find}
 use Rattle.std.specs.Option.{option_map}
 use Rattle.std.specs.Str.{bytes_eq}
-use Rattle.x509_objects.specs.Objects as objects
+use Rattle.x509_names.specs.Objects as objects
 use Rattle.x509_extensions.specs.declared.kind.Kind.{Kind}
 use Rattle.x509_extensions.specs.declared.kind.Kind.TheVariants as kinds
 

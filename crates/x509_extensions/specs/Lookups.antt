@@ -14,12 +14,12 @@ use Rattle.x509_fields.specs.declared.time.asn1_time.ASN1Time.{ASN1Time}
 use Rattle.x509_extensions.specs.declared.extension.X509Extension.{X509Extension}
 use Rattle.x509_extensions.specs.declared.parsed.ParsedExtension.{ParsedExtension}
 use Rattle.x509_extensions.specs.declared.parsed.ParsedExtension.TheVariants as variants
-use Rattle.x509_usages.specs.declared.basic_constraints.BasicConstraints.{BasicConstraints}
-use Rattle.x509_usages.specs.declared.key_usage.KeyUsage.{KeyUsage}
-use Rattle.x509_usages.specs.declared.extended_key_usage.ExtendedKeyUsage.{ExtendedKeyUsage}
-use Rattle.x509_usages.specs.declared.policy_constraints.PolicyConstraints.{PolicyConstraints}
-use Rattle.x509_usages.specs.declared.inhibit_any_policy.InhibitAnyPolicy.{InhibitAnyPolicy}
-use Rattle.x509_usages.specs.declared.policy_mapping.PolicyMappings.{PolicyMappings}
+use Rattle.x509_values.specs.declared.basic_constraints.BasicConstraints.{BasicConstraints}
+use Rattle.x509_values.specs.declared.key_usage.KeyUsage.{KeyUsage}
+use Rattle.x509_values.specs.declared.extended_key_usage.ExtendedKeyUsage.{ExtendedKeyUsage}
+use Rattle.x509_values.specs.declared.policy_constraints.PolicyConstraints.{PolicyConstraints}
+use Rattle.x509_values.specs.declared.inhibit_any_policy.InhibitAnyPolicy.{InhibitAnyPolicy}
+use Rattle.x509_values.specs.declared.policy_mapping.PolicyMappings.{PolicyMappings}
 use Rattle.x509_general_names.specs.declared.alternative_names.SubjectAlternativeName.{SubjectAlternativeName}
 use Rattle.x509_general_names.specs.declared.name_constraints.NameConstraints.{NameConstraints}
 

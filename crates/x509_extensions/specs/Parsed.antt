@@ -15,30 +15,30 @@ use Rattle.x509_fields.specs.declared.error.X509Error.TheVariants as x509
 use Rattle.x509_fields.specs.Errors.{is_x509_memory}
 use Rattle.x509_fields.specs.Fields.{Field, lifted, as_x509_renames}
 use Rattle.x509_fields.specs.Times.{Time, time_of}
-use Rattle.x509_authorities.specs.KeyIdentifier.{key_identifier_of, key_identifier, key_identifier_laws}
-use Rattle.x509_usages.specs.KeyUsage.{key_usage_of, key_usage, key_usage_laws}
+use Rattle.x509_general_names.specs.KeyIdentifier.{key_identifier_of, key_identifier, key_identifier_laws}
+use Rattle.x509_values.specs.KeyUsage.{key_usage_of, key_usage, key_usage_laws}
 use Rattle.x509_general_names.specs.AlternativeNames.{subject_names_of, issuer_names_of, general_names}
 use Rattle.x509_general_names.specs.AlternativeNamesLaws.{general_names_laws}
 use Rattle.x509_general_names.specs.GeneralName.{GeneralNameValue}
-use Rattle.x509_usages.specs.BasicConstraints.{basic_constraints_of, basic_constraints, basic_constraints_laws, BasicConstraintsValue}
-use Rattle.x509_usages.specs.CrlNumber.{crl_number, crl_number_laws}
-use Rattle.x509_usages.specs.ReasonCode.{reason_code, reason_code_laws}
-use Rattle.x509_usages.specs.InvalidityDate.{invalidity_date, invalidity_date_laws}
-use Rattle.x509_authorities.specs.IssuingDistributionPoint.{IssuingPoint, issuing_point_of, issuing_distribution_point, issuing_distribution_point_laws}
+use Rattle.x509_values.specs.BasicConstraints.{basic_constraints_of, basic_constraints, basic_constraints_laws, BasicConstraintsValue}
+use Rattle.x509_values.specs.CrlNumber.{crl_number, crl_number_laws}
+use Rattle.x509_values.specs.ReasonCode.{reason_code, reason_code_laws}
+use Rattle.x509_values.specs.InvalidityDate.{invalidity_date, invalidity_date_laws}
+use Rattle.x509_general_names.specs.IssuingDistributionPoint.{IssuingPoint, issuing_point_of, issuing_distribution_point, issuing_distribution_point_laws}
 use Rattle.x509_general_names.specs.NameConstraints.{Constraints, constraints_of, name_constraints, name_constraints_laws}
-use Rattle.x509_authorities.specs.DistributionPoints.{Point, points_of, crl_distribution_points, crl_distribution_points_laws}
-use Rattle.x509_usages.specs.Policies.{PolicyValue, policy_of, policies, policies_laws}
-use Rattle.x509_usages.specs.PolicyMapping.{PolicyMappingValue, policy_mappings_of, policy_mappings, policy_mappings_laws}
-use Rattle.x509_authorities.specs.AuthorityKeyIdentifier.{AuthorityKeyIdentifierValue, authority_key_identifier_of, authority_key_identifier, authority_key_identifier_laws}
-use Rattle.x509_usages.specs.PolicyConstraints.{PolicyConstraintsValue, policy_constraints_of, policy_constraints, policy_constraints_laws}
-use Rattle.x509_usages.specs.ExtendedKeyUsage.{Usages, usages_of, extended_key_usage, extended_key_usage_laws}
-use Rattle.x509_usages.specs.InhibitAnyPolicy.{inhibit_any_policy, inhibit_any_policy_laws}
-use Rattle.x509_authorities.specs.InformationAccess.{Access, authority_accesses_of, subject_accesses_of, information_access, information_access_laws}
-use Rattle.x509_timestamps.specs.TimestampList.{timestamps, timestamps_laws}
-use Rattle.x509_usages.specs.NsCertType.{ns_cert_type_of, ns_cert_type, ns_cert_type_laws}
-use Rattle.x509_usages.specs.NsComment.{ns_comment}
-use Rattle.x509_timestamps.specs.Timestamp.{TimestampValue, timestamp_of}
-use Rattle.x509_usages.proofs.Comments.{ns_comment_laws}
+use Rattle.x509_general_names.specs.DistributionPoints.{Point, points_of, crl_distribution_points, crl_distribution_points_laws}
+use Rattle.x509_values.specs.Policies.{PolicyValue, policy_of, policies, policies_laws}
+use Rattle.x509_values.specs.PolicyMapping.{PolicyMappingValue, policy_mappings_of, policy_mappings, policy_mappings_laws}
+use Rattle.x509_general_names.specs.AuthorityKeyIdentifier.{AuthorityKeyIdentifierValue, authority_key_identifier_of, authority_key_identifier, authority_key_identifier_laws}
+use Rattle.x509_values.specs.PolicyConstraints.{PolicyConstraintsValue, policy_constraints_of, policy_constraints, policy_constraints_laws}
+use Rattle.x509_values.specs.ExtendedKeyUsage.{Usages, usages_of, extended_key_usage, extended_key_usage_laws}
+use Rattle.x509_values.specs.InhibitAnyPolicy.{inhibit_any_policy, inhibit_any_policy_laws}
+use Rattle.x509_general_names.specs.InformationAccess.{Access, authority_accesses_of, subject_accesses_of, information_access, information_access_laws}
+use Rattle.x509_values.specs.TimestampList.{timestamps, timestamps_laws}
+use Rattle.x509_values.specs.NsCertType.{ns_cert_type_of, ns_cert_type, ns_cert_type_laws}
+use Rattle.x509_values.specs.NsComment.{ns_comment}
+use Rattle.x509_values.specs.Timestamp.{TimestampValue, timestamp_of}
+use Rattle.x509_values.proofs.Comments.{ns_comment_laws}
 use Rattle.x509_extensions.specs.Kinds.{kind_of}
 use Rattle.x509_extensions.specs.declared.kind.Kind.{Kind}
 use Rattle.x509_extensions.specs.declared.kind.Kind.TheVariants as kinds

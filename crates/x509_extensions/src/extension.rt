@@ -8,7 +8,7 @@ ghost use Rattle.x509_extensions.specs.Extension.{Extension, extension_of, exten
 use crate::parsed::ParsedExtension;
 use crate::parser::X509ExtensionParser;
 use std::alloc::Global;
-use x509_der::{FromDer, Oid, Outside, Place, Refused, Tries};
+use x509_der::{FromDer, Oid, Outside, Place, Reader, Refused, Tries};
 use x509_fields::{TryClone, X509Error};
 
 /// An extension of a certificate, of a list or of an entry of one (RFC 5280, section 4.2).

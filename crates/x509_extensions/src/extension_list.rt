@@ -15,7 +15,9 @@ ghost use Rattle.x509_der.specs.Looks.{behind};
 use crate::extension::X509Extension;
 use crate::parser::X509ExtensionParser;
 use std::alloc::Global;
-use x509_der::{Class, Err, ErrorKind, Header, Outside, Place, Refused, Sequence, Tries, Window};
+use x509_der::{
+    Class, Err, ErrorKind, Header, Outside, Place, Reader, Refused, Sequence, Tries, Window,
+};
 use x509_fields::{X509Error, sequence_at};
 
 impl X509ExtensionParser {

@@ -19,7 +19,7 @@ use x509_fields::X509Error;
 /// ```
 ///
 /// The SEQUENCE may be empty. It is read to its end: where what stands in it is no extension, `NomError(Eof)`.
-#[derive(Drop)]
+#[derive(Debug, Drop)]
 pub struct ExtensionSequence<'a> {
     /// The extensions, in order; two may have one identifier.
     pub list: Sequence<X509Extension<'a>>,

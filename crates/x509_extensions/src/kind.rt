@@ -3,7 +3,7 @@
 ghost use Rattle.std.specs.Prelude.{◌≡◌, length};
 ghost use Rattle.x509_extensions.specs.Kinds.{kind_of};
 
-use x509_objects::{
+use x509_names::{
     OID_CT_LIST_SCT, OID_PKIX_AUTHORITY_INFO_ACCESS, OID_PKIX_SUBJECT_INFO_ACCESS,
     OID_X509_EXT_CERT_COMMENT, OID_X509_EXT_CERT_TYPE,
 };

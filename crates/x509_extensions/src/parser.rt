@@ -1,20 +1,19 @@
 //! Readers of extensions, which look at the values or leave them alone.
 
-ghost use Rattle.std.specs.Prelude.{◌≡◌, ◌≤◌, ◌+◌, ◌-◌, ◌*◌, true, false, IfOk, IsErr, length};
+ghost use Rattle.std.specs.Prelude.{◌≡◌, ◌≤◌, ◌+◌, ◌-◌, ◌*◌, ⊤, true, IfOk, IsErr, length};
 ghost use Rattle.x509_der.specs.Looks.{behind, is_element};
 ghost use Rattle.x509_der.specs.Place.{at, outside_of};
 ghost use Rattle.x509_der.specs.Primitives.{is_constructed};
-ghost use Rattle.x509_der.specs.Promises.{Answers, OneTryEach, ReadsAt, ReadsExactly, ReadsWhere, TriesBounded, IsForeign, GivesAt};
+ghost use Rattle.x509_der.specs.Promises.{OneTryEach, IsForeign, GivesAt};
 ghost use Rattle.x509_der.specs.Leaves.{sequence as leaf_sequence};
 ghost use Rattle.x509_der.specs.Reading.{AddsAtLeast, strict};
-ghost use Rattle.x509_fields.specs.Errors.{is_x509_memory};
-ghost use Rattle.x509_extensions.specs.Extension.{extension_of, extension_heads, envelope_of, envelope_fields, envelope, extension};
+ghost use Rattle.x509_extensions.specs.Extension.{Extension, extension_of, extension_heads, extension_laws, envelope_of, envelope_fields, envelope, extension};
 
 use crate::extension::X509Extension;
 use crate::parsed::{ParsedExtension, parse_value};
 use std::alloc::Global;
-use x509_der::{Err, Fields, Located, Oid, Outside, Place, Refused, Tries, Window, named};
-use x509_fields::{X509Error, X509Result, sequence_at};
+use x509_der::{Fields, Oid, Outside, Place, Reader, Refused, Tries, named};
+use x509_fields::{X509Error, sequence_at};
 
 /// Reads extensions, with or without what their values say.
 ///
@@ -54,88 +53,44 @@ impl X509ExtensionParser {
             deep_parse_extensions,
         }
     }
+}
 
-    /// Reads the extension at the front of the bytes, and gives what stands behind it.
-    ///
-    /// # Errors
-    ///
-    /// `Error(InvalidExtensions)` where no front of the bytes is an extension, and `Failure(OutOfMemory)`.
-    pub fn parse<'a>(&self, alloc: Global, i: &'a [u8]) -> X509Result<'a, X509Extension<'a>>
-        ensures { ReadsExactly is_x509_memory true (λ x. (x.0.now, extension_of x.1)) (extension self.now.deep_parse_extensions) i.now result }
-    {
-        self.read(alloc, &mut Tries::new(), i)
-    }
+/// Reads an extension, `Error(InvalidExtensions)` where none stands; a shallow reader tries no header inside its value.
+impl<'a> Reader<'a, X509Error, X509Extension<'a>> for X509ExtensionParser {
+    ghost Value = { Extension };
 
-    /// Reads the extension at the front of the bytes as [`X509ExtensionParser::parse`] does; a refusal has the offset, in octets
-    /// from the front, of the place at which the grammar refuses the bytes.
-    ///
-    /// # Errors
-    ///
-    /// As [`X509ExtensionParser::parse`], with their offset; want of memory has none.
-    pub fn parse_located<'a>(
-        &self,
-        alloc: Global,
-        i: &'a [u8],
-    ) -> Result<(&'a [u8], X509Extension<'a>), Located<X509Error>>
-        ensures { ReadsWhere is_x509_memory true (λ x. (x.0.now, extension_of x.1)) (extension self.now.deep_parse_extensions) i.now result }
-    {
-        let mut tries = Tries::new();
-        let place = Place::inside(&mut tries, &Window::counted(i));
-        match self.read_at(alloc, &mut tries, &place) {
-            Ok((extension, _)) => Ok((place.rest(), extension)),
-            Err(e) => Err(e.located(i.len())),
-        }
-    }
+    ghost view = { extension_of };
 
-    /// The same, and counts the headers that it tries: at most eight for each byte; a shallow reader, for each byte
-    /// outside the value.
-    pub fn read<'a>(
-        &self,
-        alloc: Global,
-        tries: &mut Tries,
-        i: &'a [u8],
-    ) -> X509Result<'a, X509Extension<'a>>
-        ensures reads { Answers is_x509_memory true (λ x. (x.0.now, extension_of x.1)) result ((extension self.now.deep_parse_extensions).read i.now) }
-        ensures tries { TriesBounded strict (is_constructed 16) extension_heads (λ x. (x.0.now, extension_of x.1)) i.now tries.old tries.new result }
-        ensures shallow { self.now.deep_parse_extensions ≡ false → IfOk result (λ x. tries.new + 8 + 8 * length x.1.value.now + 8 * length x.0.now ≤ tries.old + 8 * length i.now) }
-    {
-        match self.read_marked(alloc, tries, i) {
-            Ok((rest, extension, _)) => Ok((rest, extension)),
-            Err(e) => Err(e),
-        }
-    }
+    ghost plan = { λ p. extension p.deep_parse_extensions };
 
-    /// The same, and whether the extension stands plainly.
-    pub fn read_marked<'a>(
-        &self,
-        alloc: Global,
-        tries: &mut Tries,
-        i: &'a [u8],
-    ) -> Result<(&'a [u8], X509Extension<'a>, bool), Err<X509Error>>
-        ensures reads { Answers is_x509_memory true (λ x. (x.0.now, extension_of x.1)) result ((extension self.now.deep_parse_extensions).read i.now) }
-        ensures marks { IfOk result (λ x. x.2 ≡ (extension self.now.deep_parse_extensions).marks i.now) }
-        ensures tries { TriesBounded strict (is_constructed 16) extension_heads (λ x. (x.0.now, extension_of x.1)) i.now tries.old tries.new result }
-        ensures shallow { self.now.deep_parse_extensions ≡ false → IfOk result (λ x. tries.new + 8 + 8 * length x.1.value.now + 8 * length x.0.now ≤ tries.old + 8 * length i.now) }
-    {
-        let place = Place::look(tries, i);
-        match self.read_at(alloc, tries, &place) {
-            Ok((extension, plain)) => Ok((place.rest(), extension, plain)),
-            Err(e) => Err(e.why),
-        }
-    }
+    ghost laws = { λ p. (extension_laws p.deep_parse_extensions).laws.lawful };
 
-    /// Reads the extension at a place that was looked at.
+    ghost form = { strict };
+
+    ghost own_tag = { λ _. is_constructed 16 };
+
+    ghost heads = { extension_heads };
+
+    ghost takes_memory = { true };
+
+    ghost is_deep = { λ p. p.deep_parse_extensions };
+
+    ghost unread = { λ x. length x.value };
+
+    ghost stands = { λ _ _ _ _. ⊤ };
+
+    ghost stands_where = { λ _ _ _ _ _ _. tt };
+
+    ghost refused_where = { λ _ _ _ _ _ _. tt };
+
     #[inline(always)]
     #[tactic(auto, unfolding(crate::specs::Extension::extension))]
-    pub fn read_at<'a, L: Outside>(
+    fn read_at<L: Outside>(
         &self,
         alloc: Global,
         tries: &mut Tries,
         place: &Place<'a, L>,
-    ) -> Result<(X509Extension<'a>, bool), Refused<X509Error, L>>
-        ensures reads { ReadsAt is_x509_memory true strict (is_constructed 16) extension_heads extension_of (extension self.now.deep_parse_extensions) L.adds (at place.now) (outside_of place.now) tries.old tries.new result }
-        ensures shallow { self.now.deep_parse_extensions ≡ false → IfOk result (λ x. tries.new + 9 + 8 * length x.0.value.now + 8 * length (behind (at place.now)) ≤ tries.old + 8 * length (at place.now)) }
-    {
+    ) -> Result<(X509Extension<'a>, bool), Refused<X509Error, L>> {
         let (envelope, envelope_plain) = read_envelope(tries, place)?;
         let Envelope {
             oid,
@@ -160,6 +115,8 @@ impl X509ExtensionParser {
         };
         Ok((extension, value_plain & envelope_plain))
     }
+
+    ghost never_memory = { λ p. (extension_laws p.deep_parse_extensions).laws.never_memory };
 }
 
 /// An extension whose value isn't looked at.

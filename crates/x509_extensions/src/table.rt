@@ -1,32 +1,34 @@
 //! What holds of the values that are read.
 
-ghost use Rattle.x509_extensions.specs.Parsed.{IsRow, IsWholeRow, SubjectKeyIdentifier, KeyUsage, SubjectAlternativeName, IssuerAlternativeName, BasicConstraints, CRLNumber, ReasonCode, InvalidityDate, IssuingDistributionPoint, NameConstraints, CRLDistributionPoints, CertificatePolicies, PolicyMappings, AuthorityKeyIdentifier, PolicyConstraints, ExtendedKeyUsage, InhibitAnyPolicy, AuthorityInfoAccess, SubjectInfoAccess, SCT, NSCertType, NsCertComment};
-ghost use Rattle.x509_objects.specs.Objects as objects;
+ghost use Rattle.std.specs.Prelude.{◌≡◌, ℕ, List, None};
+ghost use Rattle.x509_extensions.specs.Kinds.{kind_of};
+ghost use Rattle.x509_extensions.specs.Parsed.{IsRow, IsWholeRow, Unsupported, parsed_value, SubjectKeyIdentifier, KeyUsage, SubjectAlternativeName, IssuerAlternativeName, BasicConstraints, CRLNumber, ReasonCode, InvalidityDate, IssuingDistributionPoint, NameConstraints, CRLDistributionPoints, CertificatePolicies, PolicyMappings, AuthorityKeyIdentifier, PolicyConstraints, ExtendedKeyUsage, InhibitAnyPolicy, AuthorityInfoAccess, SubjectInfoAccess, SCT, NSCertType, NsCertComment};
+ghost use Rattle.x509_names.specs.Objects as objects;
 ghost use Rattle.x509_fields.specs.Fields.{lifted};
-ghost use Rattle.x509_authorities.specs.KeyIdentifier.{key_identifier};
-ghost use Rattle.x509_usages.specs.KeyUsage.{key_usage};
+ghost use Rattle.x509_general_names.specs.KeyIdentifier.{key_identifier};
+ghost use Rattle.x509_values.specs.KeyUsage.{key_usage};
 ghost use Rattle.x509_general_names.specs.AlternativeNames.{general_names};
-ghost use Rattle.x509_usages.specs.BasicConstraints.{basic_constraints};
-ghost use Rattle.x509_usages.specs.CrlNumber.{crl_number};
-ghost use Rattle.x509_usages.specs.ReasonCode.{reason_code};
-ghost use Rattle.x509_usages.specs.InvalidityDate.{invalidity_date};
-ghost use Rattle.x509_authorities.specs.IssuingDistributionPoint.{issuing_distribution_point};
+ghost use Rattle.x509_values.specs.BasicConstraints.{basic_constraints};
+ghost use Rattle.x509_values.specs.CrlNumber.{crl_number};
+ghost use Rattle.x509_values.specs.ReasonCode.{reason_code};
+ghost use Rattle.x509_values.specs.InvalidityDate.{invalidity_date};
+ghost use Rattle.x509_general_names.specs.IssuingDistributionPoint.{issuing_distribution_point};
 ghost use Rattle.x509_general_names.specs.NameConstraints.{name_constraints};
-ghost use Rattle.x509_authorities.specs.DistributionPoints.{crl_distribution_points};
-ghost use Rattle.x509_usages.specs.Policies.{policies};
-ghost use Rattle.x509_usages.specs.PolicyMapping.{policy_mappings};
-ghost use Rattle.x509_authorities.specs.AuthorityKeyIdentifier.{authority_key_identifier};
-ghost use Rattle.x509_usages.specs.PolicyConstraints.{policy_constraints};
-ghost use Rattle.x509_usages.specs.ExtendedKeyUsage.{extended_key_usage};
-ghost use Rattle.x509_usages.specs.InhibitAnyPolicy.{inhibit_any_policy};
-ghost use Rattle.x509_authorities.specs.InformationAccess.{information_access};
-ghost use Rattle.x509_timestamps.specs.TimestampList.{timestamps};
-ghost use Rattle.x509_usages.specs.NsCertType.{ns_cert_type};
-ghost use Rattle.x509_usages.specs.NsComment.{ns_comment};
+ghost use Rattle.x509_general_names.specs.DistributionPoints.{crl_distribution_points};
+ghost use Rattle.x509_values.specs.Policies.{policies};
+ghost use Rattle.x509_values.specs.PolicyMapping.{policy_mappings};
+ghost use Rattle.x509_general_names.specs.AuthorityKeyIdentifier.{authority_key_identifier};
+ghost use Rattle.x509_values.specs.PolicyConstraints.{policy_constraints};
+ghost use Rattle.x509_values.specs.ExtendedKeyUsage.{extended_key_usage};
+ghost use Rattle.x509_values.specs.InhibitAnyPolicy.{inhibit_any_policy};
+ghost use Rattle.x509_general_names.specs.InformationAccess.{information_access};
+ghost use Rattle.x509_values.specs.TimestampList.{timestamps};
+ghost use Rattle.x509_values.specs.NsCertType.{ns_cert_type};
+ghost use Rattle.x509_values.specs.NsComment.{ns_comment};
 
 /// The table of values: under its own identifier, what the value of an extension says is a value of a type exactly where that
 /// type's `from_der` takes the value bytes, and it is the same value; where `from_der` refuses them, it is a `ParseError`
-/// for that reason. The body is empty: the contract is what is proved.
+/// for that reason. Under an identifier of none of them it is unsupported. The body is empty: the contract is what is proved.
 pub const fn value_laws()
     ensures subject_key_identifier { IsRow objects.subject_key_identifier key_identifier (λ v. SubjectKeyIdentifier v) }
     ensures key_usage { IsRow objects.key_usage key_usage (λ v. KeyUsage v) }
@@ -50,4 +52,5 @@ pub const fn value_laws()
     ensures ct_list_sct { IsRow objects.ct_list_sct (lifted timestamps) (λ v. SCT v) }
     ensures ns_cert_type { IsRow objects.ns_cert_type ns_cert_type (λ v. NSCertType v) }
     ensures ns_comment { IsWholeRow objects.ns_comment ns_comment (λ v. NsCertComment v) }
+    ensures unknown { (id value : List ℕ) → kind_of id ≡ None → parsed_value id value ≡ Unsupported id }
 {}

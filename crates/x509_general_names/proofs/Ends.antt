@@ -10,7 +10,7 @@ use Rattle.x509_fields.specs.declared.error.X509Error.{X509Error}
 use Rattle.x509_fields.specs.Fields.{lifted}
 use Rattle.x509_general_names.specs.GeneralName.{GeneralNameValue, context_element}
 use Rattle.x509_der.specs.Promises.{ended_early}
-use Rattle.x509_parts.specs.Lists.{list_error}
+use Rattle.x509_fields.specs.Lists.{list_error}
 use Rattle.x509_general_names.specs.AlternativeNames.{unless_refused, got_or_failed, end_of_names}
 
 behind_it : {F A : Type 0} (r : Outcome F A) → then_marks r (λ a next. true) ≡ true

@@ -1,3 +1,5 @@
 mod Texts
 mod Elements
 mod Ends
+mod Foreign
+mod Leaves

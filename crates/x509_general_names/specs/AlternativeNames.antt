@@ -7,7 +7,7 @@ use Rattle.x509_der.specs.Promises.{ended_early}
 use Rattle.x509_fields.specs.Fields.{Field, sequence}
 use Rattle.x509_general_names.specs.declared.alternative_names.SubjectAlternativeName.{SubjectAlternativeName}
 use Rattle.x509_general_names.specs.declared.alternative_names.IssuerAlternativeName.{IssuerAlternativeName}
-use Rattle.x509_parts.specs.Lists.{list_error}
+use Rattle.x509_fields.specs.Lists.{list_error}
 use Rattle.x509_general_names.specs.GeneralName.{GeneralNameValue, general_name_of, general_name_heads, context_element, general_name}
 
 -- ---- the values

@@ -16,8 +16,8 @@ use Rattle.x509_der.specs.Reading.{Element, element_of}
 use Rattle.x509_fields.specs.declared.error.X509Error.{X509Error}
 use Rattle.x509_fields.specs.declared.error.X509Error.TheVariants.{Der}
 use Rattle.x509_fields.specs.Fields.{Field, lifted}
-use Rattle.x509_fields.specs.Names.{Name, name_of, name_heads, name}
-use Rattle.x509_fields.specs.NameTexts.{shown_name}
+use Rattle.x509_names.specs.Names.{Name, name_of, name_heads, name}
+use Rattle.x509_names.specs.NameTexts.{shown_name}
 use Rattle.x509_general_names.specs.declared.general_name.GeneralName.{GeneralName}
 use Rattle.x509_general_names.specs.declared.general_name.GeneralName.TheVariants as variants
 

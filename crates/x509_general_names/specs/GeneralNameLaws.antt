@@ -23,7 +23,7 @@ use Rattle.x509_fields.specs.declared.error.X509Error.{X509Error}
 use Rattle.x509_fields.specs.declared.error.X509Error.TheVariants.{Der}
 use Rattle.x509_fields.specs.Errors.{is_x509_memory}
 use Rattle.x509_fields.specs.Fields.{lifted, as_x509_renames}
-use Rattle.x509_fields.specs.Names.{name_laws}
+use Rattle.x509_names.specs.Names.{name_laws}
 use Rattle.x509_general_names.specs.GeneralName.{GeneralNameValue, Alternative, other_name, rfc822_name, dns_name, x400_address, directory_name, edi_party_name, uniform_resource_identifier, ip_address, registered_id, no_alternative, alternative, alternative_of, alternative_in, some_or_not, only_context, context_element, named, general_name}
 
 -- ---- contents

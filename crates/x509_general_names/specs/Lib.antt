@@ -4,3 +4,12 @@ pub mod Addresses
 pub mod AlternativeNames
 pub mod AlternativeNamesLaws
 pub mod NameConstraints
+pub mod KeyIdentifier
+pub mod ImplicitNames
+pub mod AuthorityKeyIdentifier
+pub mod InformationAccess
+pub mod ReasonFlags
+pub mod DistributionPointName
+pub mod DistributionPoints
+pub mod ImplicitBool
+pub mod IssuingDistributionPoint

@@ -9,7 +9,7 @@ use Rattle.x509_fields.specs.Errors.{is_x509_memory}
 use Rattle.x509_fields.specs.Fields.{Field, lifted, sequence, as_x509_renames}
 use Rattle.x509_general_names.specs.declared.name_constraints.GeneralSubtree.{GeneralSubtree}
 use Rattle.x509_general_names.specs.declared.name_constraints.NameConstraints.{NameConstraints}
-use Rattle.x509_parts.specs.Lists.{list_error}
+use Rattle.x509_fields.specs.Lists.{list_error}
 use Rattle.x509_general_names.specs.GeneralName.{GeneralNameValue, general_name_of, general_name_heads, general_name}
 use Rattle.x509_general_names.specs.GeneralNameLaws.{general_name_laws}
 

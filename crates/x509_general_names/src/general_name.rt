@@ -21,7 +21,8 @@ use std::{fmt, str};
 use x509_der::{
     Any, BerError, Class, Err, FromDer, HexPairs, Oid, Outside, Place, Refused, Tag, Tries,
 };
-use x509_fields::{TryClone, X509Error, X509Name};
+use x509_fields::{TryClone, X509Error};
+use x509_names::X509Name;
 
 /// A name of one of many kinds (RFC 5280, section 4.2.1.6), told by the number of its tag.
 ///

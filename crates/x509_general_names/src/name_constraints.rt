@@ -4,15 +4,14 @@ ghost use Rattle.std.specs.Prelude.{List, true, ⊤};
 ghost use Rattle.x509_der.specs.Primitives.{is_constructed, is_explicit};
 ghost use Rattle.x509_der.specs.Reading.{strict};
 ghost use Rattle.x509_general_names.specs.GeneralName.{GeneralNameValue};
-ghost use Rattle.x509_general_names.specs.NameConstraints.{subtree_of, subtrees_of, Constraints, constraints_of, general_subtree, general_subtrees, name_constraints, subtree_heads, subtrees_heads, constraints_heads, general_subtree_laws, name_constraints_laws};
+ghost use Rattle.x509_general_names.specs.NameConstraints.{subtree_of, subtrees_of, Constraints, constraints_of, general_subtree, general_subtrees, name_constraints, subtree_heads, subtrees_heads, constraints_heads, general_subtree_laws, general_subtrees_laws, name_constraints_laws};
 
 use crate::general_name::GeneralName;
 use std::alloc::Global;
 use x509_der::{
-    ErrorKind, Fields, FromDer, Outside, Place, ReadAt, Refused, Sequence, Tries, read_run,
+    ErrorKind, Fields, FromDer, Outside, Place, Reader, Refused, Sequence, Tries, read_run,
 };
-use x509_fields::{TryClone, X509Error, sequence_at};
-use x509_parts::list_error;
+use x509_fields::{TryClone, X509Error, list_error, sequence_at};
 
 /// The names that are permitted, and those that are excluded (RFC 5280, section 4.2.1.10).
 ///
@@ -145,12 +144,14 @@ struct Subtrees {
     number: u32,
 }
 
-impl<'a> ReadAt<'a, X509Error, Sequence<GeneralSubtree<'a>>> for Subtrees {
+impl<'a> Reader<'a, X509Error, Sequence<GeneralSubtree<'a>>> for Subtrees {
     ghost Value = { List GeneralNameValue };
 
     ghost view = { subtrees_of };
 
     ghost plan = { λ s. general_subtrees s.number };
+
+    ghost laws = { λ s. (general_subtrees_laws s.number).laws.lawful };
 
     ghost form = { strict };
 
@@ -160,7 +161,13 @@ impl<'a> ReadAt<'a, X509Error, Sequence<GeneralSubtree<'a>>> for Subtrees {
 
     ghost takes_memory = { true };
 
-    ghost tight = { λ _ _ _. ⊤ };
+    ghost unread = { λ _. 0 };
+
+    ghost stands = { λ _ _ _ _. ⊤ };
+
+    ghost stands_where = { λ _ _ _ _ _ _. tt };
+
+    ghost refused_where = { λ _ _ _ _ _ _. tt };
 
     #[tactic(auto, unfolding(crate::specs::NameConstraints::general_subtrees, x509_der::specs::Leaves::explicit, x509_der::specs::Primitives::contents_at), using(x509_der::proofs::Marking::marks_of_readers))]
     fn read_at<L: Outside>(
@@ -179,4 +186,6 @@ impl<'a> ReadAt<'a, X509Error, Sequence<GeneralSubtree<'a>>> for Subtrees {
         }
         Ok((subtrees, plain))
     }
+
+    ghost never_memory = { λ s. (general_subtrees_laws s.number).laws.never_memory };
 }

@@ -4,7 +4,7 @@ use Rattle.std.specs.Str.{bytes_eq}
 use Rattle.x509_der.specs.Reading.{Element}
 use Rattle.x509_fields.specs.declared.error.X509Error.{X509Error}
 use Rattle.x509_fields.specs.Algorithm.{Algorithm}
-use Rattle.x509_objects.specs.Objects.{pkcs, us}
+use Rattle.x509_names.specs.Objects.{pkcs, us}
 use Rattle.x509_keys.specs.declared.hash_algorithm.HashAlgorithm.{HashAlgorithm}
 use Rattle.x509_keys.specs.declared.hash_algorithm.HashAlgorithm.TheVariants as hashes
 use Rattle.x509_keys.specs.MaskGenAlgorithm.{sha1, hash_or_sha1}

@@ -1,6 +1,6 @@
 -- What keys are for, by the identifier of their algorithm, and the curves that keys name.
 use Rattle.std.specs.Prelude.{ℕ, List, [], ◌∷◌, codes, Option, unwrap_or}
-use Rattle.x509_objects.specs.Objects.{us}
+use Rattle.x509_names.specs.Objects.{us}
 use Rattle.x509_keys.specs.declared.key_algorithm.KeyAlgorithm.{KeyAlgorithm}
 use Rattle.x509_keys.specs.declared.key_algorithm.KeyAlgorithm.TheVariants as keys
 use Rattle.x509_keys.specs.declared.key_algorithm.NamedCurve.{NamedCurve}

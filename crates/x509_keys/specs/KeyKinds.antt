@@ -3,7 +3,7 @@ use Rattle.std.specs.Prelude.{ℕ, List, [], ◌∷◌, unwrap_or}
 use Rattle.std.specs.List.{find}
 use Rattle.std.specs.Option.{option_map}
 use Rattle.std.specs.Str.{bytes_eq}
-use Rattle.x509_objects.specs.Objects.{pkcs, us, russia}
+use Rattle.x509_names.specs.Objects.{pkcs, us, russia}
 use Rattle.x509_keys.specs.declared.key_kind.KeyKind.{KeyKind}
 use Rattle.x509_keys.specs.declared.key_kind.KeyKind.TheVariants as kinds
 

@@ -8,7 +8,7 @@ use Rattle.x509_der.specs.Reading.{Element, Reading}
 use Rattle.x509_fields.specs.declared.error.X509Error.{X509Error}
 use Rattle.x509_fields.specs.declared.error.X509Error.TheVariants as x509
 use Rattle.x509_fields.specs.Algorithm.{Algorithm}
-use Rattle.x509_objects.specs.Objects.{pkcs}
+use Rattle.x509_names.specs.Objects.{pkcs}
 use Rattle.x509_keys.specs.declared.mask_gen_algorithm.MaskGenAlgorithm.{MaskGenAlgorithm}
 
 -- ---- the value: the identifiers of the function and of its hash

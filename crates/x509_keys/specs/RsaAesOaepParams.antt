@@ -11,7 +11,7 @@ use Rattle.x509_der.proofs.Rulesets.{laws}
 use Rattle.x509_fields.specs.Algorithm.{Algorithm, algorithm_of}
 use Rattle.x509_fields.specs.Errors.{is_x509_memory}
 use Rattle.x509_fields.specs.Fields.{Field}
-use Rattle.x509_objects.specs.Objects.{pkcs}
+use Rattle.x509_names.specs.Objects.{pkcs}
 use Rattle.x509_keys.specs.declared.rsa_aes_oaep_params.RsaAesOaepParams.{RsaAesOaepParams}
 use Rattle.x509_keys.specs.Parameters.{tagged_algorithm, tagged_algorithm_laws}
 

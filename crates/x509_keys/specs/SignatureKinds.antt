@@ -3,7 +3,7 @@ use Rattle.std.specs.Prelude.{ℕ, Bool, List, [], ◌∷◌, Option, nat_eq}
 use Rattle.std.specs.List.{find, starts_with}
 use Rattle.std.specs.Option.{option_map}
 use Rattle.std.specs.Str.{bytes_eq}
-use Rattle.x509_objects.specs.Objects.{pkcs, us}
+use Rattle.x509_names.specs.Objects.{pkcs, us}
 use Rattle.x509_keys.specs.declared.signature_kind.SignatureKind.{SignatureKind}
 use Rattle.x509_keys.specs.declared.signature_kind.SignatureKind.TheVariants as kinds
 

@@ -6,9 +6,10 @@ ghost use Rattle.x509_keys.specs.HashAlgorithms.{hash_algorithm_of, hash_word, h
 
 use crate::rows::{Row, find_value};
 use crate::rsa_ssa_pss_params::RsaSsaPssParams;
-use x509_fields::{
-    AlgorithmIdentifier, OID_HASH_SHA1, OID_PKCS1_RSASSAPSS, OID_PKCS1_SHA1WITHRSA,
-    OID_PKCS1_SHA256WITHRSA, OID_SIG_ECDSA_WITH_SHA256,
+use x509_fields::AlgorithmIdentifier;
+use x509_names::{
+    OID_HASH_SHA1, OID_PKCS1_RSASSAPSS, OID_PKCS1_SHA1WITHRSA, OID_PKCS1_SHA256WITHRSA,
+    OID_SIG_ECDSA_WITH_SHA256,
 };
 
 /// A hash function.

@@ -4,7 +4,7 @@ ghost use Rattle.std.specs.Prelude.{◌≡◌};
 ghost use Rattle.x509_keys.specs.KeyAlgorithms.{key_algorithm_of, key_algorithm_word, named_curve_of, named_curve_word, field_bits};
 
 use crate::rows::{Row, find_value};
-use x509_fields::{
+use x509_names::{
     OID_GOST_R3410_2001, OID_KEY_TYPE_DSA, OID_KEY_TYPE_EC_PUBLIC_KEY,
     OID_KEY_TYPE_GOST_R3410_2012_256, OID_KEY_TYPE_GOST_R3410_2012_512, OID_PKCS1_RSAENCRYPTION,
     OID_PKCS1_RSASSAPSS, OID_SIG_ED25519,

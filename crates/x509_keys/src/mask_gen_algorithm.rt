@@ -9,7 +9,8 @@ ghost use Rattle.x509_keys.specs.MaskGenAlgorithm.{mask_gen_of, mask_gen_or_mgf1
 
 use crate::public_key::first_place;
 use x509_der::Oid;
-use x509_fields::{AlgorithmIdentifier, OID_HASH_SHA1, X509Error};
+use x509_fields::{AlgorithmIdentifier, X509Error};
+use x509_names::OID_HASH_SHA1;
 
 /// id-mgf1, 1.2.840.113549.1.1.8 (RFC 4055, section 2.2): the contents of the identifier.
 const ID_MGF1: &[u8] = &[0x2a, 0x86, 0x48, 0x86, 0xf7, 0x0d, 0x01, 0x01, 0x08];

@@ -3,7 +3,7 @@
 ghost use Rattle.std.specs.Prelude.{◌≡◌};
 ghost use Rattle.x509_keys.specs.SignatureKinds.{signature_kind_of};
 
-use x509_fields::{OID_PKCS1_RSASSAPSS, OID_SIG_ED25519};
+use x509_names::{OID_PKCS1_RSASSAPSS, OID_SIG_ED25519};
 
 /// id-RSAES-OAEP, 1.2.840.113549.1.1.7 (RFC 4055, section 4.1): the contents of the identifier.
 const ID_RSAES_OAEP: &[u8] = &[0x2a, 0x86, 0x48, 0x86, 0xf7, 0x0d, 0x01, 0x01, 0x07];

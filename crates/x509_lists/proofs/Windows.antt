@@ -2,8 +2,8 @@
 use Rattle.std.proofs.Common.{◌≡◌, ℕ, List, ◌++◌, ap, ◌∙◌}
 use Rattle.x509_der.specs.Laws.{IsBytes}
 use Rattle.x509_der.specs.Promises.{IsFront}
-use Rattle.x509_signed.specs.Signed.{Signed}
-use Rattle.x509_signed.proofs.SignedParts.{signed_front_stands}
+use Rattle.x509_fields.specs.Signed.{Signed}
+use Rattle.x509_fields.proofs.SignedParts.{signed_front_stands}
 use Rattle.x509_lists.specs.TbsCertList.{TbsList, tbs_list, tbs_list_laws}
 use Rattle.x509_lists.specs.CertificateList.{certificate_list, certificate_list_laws, ListStands}
 

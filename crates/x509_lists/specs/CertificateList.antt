@@ -9,7 +9,7 @@ use Rattle.x509_fields.specs.Algorithm.{algorithm_of}
 use Rattle.x509_fields.specs.declared.error.X509Error.TheVariants as x509
 use Rattle.x509_fields.specs.Errors.{is_x509_memory}
 use Rattle.x509_fields.specs.Fields.{Field}
-use Rattle.x509_signed.specs.Signed.{Signed, signed, signed_heads, signed_laws, SignedStands}
+use Rattle.x509_fields.specs.Signed.{Signed, signed, signed_heads, signed_laws, SignedStands}
 use Rattle.x509_lists.specs.TbsCertList.{TbsList, tbs_list, tbs_list_of, tbs_list_heads, tbs_list_laws}
 use Rattle.x509_lists.specs.declared.certificate_list.CertificateRevocationList.{CertificateRevocationList}
 

@@ -8,7 +8,7 @@ use Rattle.x509_der.proofs.Results.{then_ok}
 use Rattle.x509_fields.specs.Errors.{is_x509_memory}
 use Rattle.x509_fields.specs.Algorithm.{Algorithm, algorithm, algorithm_of, algorithm_heads, algorithm_laws}
 use Rattle.x509_fields.specs.Fields.{Field}
-use Rattle.x509_fields.specs.Names.{Name, name, name_of, name_heads, name_laws}
+use Rattle.x509_names.specs.Names.{Name, name, name_of, name_heads, name_laws}
 use Rattle.x509_fields.specs.Times.{Time, time, time_of, time_laws}
 use Rattle.x509_lists.specs.NextUpdate.{next_update, next_update_laws}
 use Rattle.x509_lists.specs.declared.issue.Issue.{Issue as Read}

@@ -10,7 +10,7 @@ use Rattle.x509_fields.specs.Fields.{Field, sequence, as_x509_renames}
 use Rattle.x509_fields.specs.Times.{Time, time, time_of, time_laws}
 use Rattle.x509_extensions.specs.Extension.{Extension, extension_of}
 use Rattle.x509_extensions.specs.ExtensionList.{extensions, extensions_heads, extensions_laws}
-use Rattle.x509_signed.specs.Serial.{serial, serial_laws}
+use Rattle.x509_fields.specs.Serial.{serial, serial_laws}
 use Rattle.x509_lists.specs.declared.revoked_certificate.RevokedCertificate.{RevokedCertificate}
 
 -- ---- the value

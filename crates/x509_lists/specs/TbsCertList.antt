@@ -7,7 +7,7 @@ use Rattle.x509_der.proofs.Marking.{marked}
 use Rattle.x509_fields.specs.Errors.{is_x509_memory}
 use Rattle.x509_fields.specs.Algorithm.{Algorithm, algorithm_of}
 use Rattle.x509_fields.specs.Fields.{Field, sequence, as_x509_renames}
-use Rattle.x509_fields.specs.Names.{Name, name_of}
+use Rattle.x509_names.specs.Names.{Name, name_of}
 use Rattle.x509_fields.specs.Times.{Time, time_of}
 use Rattle.x509_fields.specs.Version.{version, version_laws}
 use Rattle.x509_extensions.specs.Extension.{Extension, extension_of}

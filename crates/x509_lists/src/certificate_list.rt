@@ -3,7 +3,7 @@
 ghost use Rattle.std.specs.Prelude.{◌≡◌, true};
 ghost use Rattle.x509_der.specs.Primitives.{is_constructed};
 ghost use Rattle.x509_der.specs.Reading.{strict};
-ghost use Rattle.x509_signed.specs.Signed.{Signed};
+ghost use Rattle.x509_fields.specs.Signed.{Signed};
 ghost use Rattle.x509_lists.specs.RevokedList.{revoked_left};
 ghost use Rattle.x509_lists.specs.TbsCertList.{TbsList};
 ghost use Rattle.x509_lists.specs.CertificateList.{list_of, list_heads, certificate_list, certificate_list_laws};
@@ -11,10 +11,12 @@ ghost use Rattle.x509_lists.specs.CertificateList.{list_of, list_heads, certific
 use crate::revoked_iter::RevokedIter;
 use crate::tbs_cert_list::TbsCertList;
 use std::alloc::Global;
-use x509_der::{BitString, FromDer, Outside, Place, Refused, Tries, ok};
+use x509_der::{BitString, FromDer, OfType, Outside, Place, Refused, Tries, ok};
 use x509_extensions::X509Extension;
-use x509_fields::{ASN1Time, AlgorithmIdentifier, TryClone, X509Error, X509Name, X509Version};
-use x509_signed::{Signed, read_signed};
+use x509_fields::{
+    ASN1Time, AlgorithmIdentifier, Signed, TryClone, X509Error, X509Version, read_signed,
+};
+use x509_names::X509Name;
 
 /// A list of revoked certificates (RFC 5280, section 5.1). Its signature is not looked into.
 ///
@@ -127,7 +129,7 @@ impl<'a> FromDer<'a, X509Error> for CertificateRevocationList<'a> {
                 raw,
             },
             plain,
-        ) = ok!(read_signed(alloc, tries, place));
+        ) = ok!(read_signed(&OfType, alloc, tries, place));
         let list = CertificateRevocationList {
             tbs_cert_list: tbs,
             signature_algorithm,

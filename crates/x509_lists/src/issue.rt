@@ -10,7 +10,8 @@ ghost use Rattle.x509_der.specs.Promises.{AnswersAt};
 use crate::next_update::read_next_update;
 use std::alloc::Global;
 use x509_der::{Fields, Outside, Refused, Tries, ok};
-use x509_fields::{ASN1Time, AlgorithmIdentifier, X509Error, X509Name};
+use x509_fields::{ASN1Time, AlgorithmIdentifier, X509Error};
+use x509_names::X509Name;
 
 /// The fields between the version of a list and its certificates.
 #[derive(Drop)]

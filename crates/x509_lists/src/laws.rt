@@ -4,7 +4,7 @@ ghost use Rattle.std.specs.Prelude.{◌≡◌, ◌++◌, List, ℕ};
 ghost use Rattle.x509_der.specs.Laws.{IsBytes, IsMarkedElement};
 ghost use Rattle.x509_der.specs.Promises.{IsFront};
 ghost use Rattle.x509_fields.specs.Errors.{is_x509_memory};
-ghost use Rattle.x509_signed.specs.Signed.{Signed};
+ghost use Rattle.x509_fields.specs.Signed.{Signed};
 ghost use Rattle.x509_lists.specs.RevokedCertificate.{revoked};
 ghost use Rattle.x509_lists.specs.RevokedList.{revoked_list};
 ghost use Rattle.x509_lists.specs.TbsCertList.{TbsList, tbs_list};

@@ -1,4 +1,4 @@
-//! Lists of revoked certificates (RFC 5280, section 5).
+//! Lists of revoked certificates (RFC 5280, section 5), whole. It may use extensions and names, and not the other signed structures.
 #![tactic(auto)]
 
 mod certificate_list;

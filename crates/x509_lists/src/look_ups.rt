@@ -7,7 +7,7 @@ ghost use Rattle.std.specs.Option.{option_copied};
 ghost use Rattle.x509_der.specs.Oid.{oid_bytes};
 ghost use Rattle.x509_der.specs.declared.oid.Oid.{Oid as OidOf};
 ghost use Rattle.x509_fields.specs.declared.error.X509Error.TheVariants.{OutOfMemory, DuplicateExtensions};
-ghost use Rattle.x509_objects.specs.Objects as objects;
+ghost use Rattle.x509_names.specs.Objects as objects;
 ghost use Rattle.x509_extensions.specs.Lookups.{has_oid, oid_eq, all_distinct, first_said, crl_number_in, reason_code_in, invalidity_date_in};
 
 use crate::certificate_list::CertificateRevocationList;
@@ -18,10 +18,8 @@ use std::collections::HashMap;
 use std::hash::BuildHasher;
 use x509_der::{Oid, UnsignedBytes};
 use x509_extensions::{ParsedExtension, X509Extension};
-use x509_fields::{
-    ASN1Time, OID_X509_EXT_CRL_NUMBER, OID_X509_EXT_INVALIDITY_DATE, OID_X509_EXT_REASON_CODE,
-    ReasonCode, X509Error,
-};
+use x509_fields::{ASN1Time, ReasonCode, X509Error};
+use x509_names::{OID_X509_EXT_CRL_NUMBER, OID_X509_EXT_INVALIDITY_DATE, OID_X509_EXT_REASON_CODE};
 
 impl<'a> TbsCertList<'a> {
     /// The first extension with this identifier.

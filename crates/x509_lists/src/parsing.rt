@@ -7,9 +7,8 @@ ghost use Rattle.x509_lists.specs.CertificateList.{ListStands, list_of, certific
 
 use crate::certificate_list::CertificateRevocationList;
 use std::alloc::Global;
-use x509_der::{Err, FromDer, Located, Tries};
-use x509_fields::{X509Error, X509Result};
-use x509_signed::read_plain;
+use x509_der::{Err, FromDer, Located, Reader, Tries};
+use x509_fields::{Plainly, X509Error, X509Result};
 
 /// Reads the list of revoked certificates at the front of the bytes (RFC 5280, section 5.1), and gives what stands behind it.
 ///
@@ -74,7 +73,7 @@ pub fn parse_x509_crl_strict<'a>(
     ensures exact { ReadsExactly is_x509_memory true (λ x. (x.0.now, list_of x.1)) plain_list i.now result }
     ensures stands { IfOk result (λ x. ListStands i.now (list_of x.1) x.0.now) }
 {
-    match read_plain::<CertificateRevocationList>(alloc, &mut Tries::new(), i) {
+    match Plainly.parse(alloc, i) {
         Ok((rest, list)) => Ok((rest, list)),
         Err(e) => Err(e),
     }

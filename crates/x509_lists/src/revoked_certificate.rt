@@ -11,8 +11,7 @@ ghost use Rattle.x509_lists.specs.RevokedCertificate.{Revoked, revoked_of, revok
 use std::alloc::Global;
 use x509_der::{Fields, FromDer, Outside, Place, Refused, Sequence, Tries, UnsignedBytes, ok};
 use x509_extensions::{ExtensionIter, ExtensionSequence, X509Extension};
-use x509_fields::{ASN1Time, TryClone, X509Error, format_serial, sequence_at};
-use x509_signed::read_serial;
+use x509_fields::{ASN1Time, TryClone, X509Error, format_serial, read_serial, sequence_at};
 
 /// A certificate that was revoked (RFC 5280, section 5.1.2.6).
 ///

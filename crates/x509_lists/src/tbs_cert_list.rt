@@ -13,9 +13,8 @@ use crate::revoked_list::RevokedList;
 use std::alloc::Global;
 use x509_der::{Fields, FromDer, Outside, Place, Refused, Sequence, Tries};
 use x509_extensions::{ExtensionIter, X509Extension, X509ExtensionParser};
-use x509_fields::{
-    ASN1Time, AlgorithmIdentifier, TryClone, X509Error, X509Name, X509Version, sequence_at,
-};
+use x509_fields::{ASN1Time, AlgorithmIdentifier, TryClone, X509Error, X509Version, sequence_at};
+use x509_names::X509Name;
 
 /// The part of a list that is signed (RFC 5280, section 5.1.2).
 ///

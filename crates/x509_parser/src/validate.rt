@@ -1,10 +1,8 @@
 //! Validators, which tell a logger what is wrong with an item, and loggers.
 
-pub use x509_loggers::{
-    CallbackLogger, ChainValidator, Logger, StderrLogger, Validator, VecLogger, chain,
-    log_error_if, log_warning_if,
-};
 pub use x509_validators::{
-    TbsCertificateStructureValidator, Validate, X509CertificateValidator, X509ExtensionsValidator,
-    X509NameStructureValidator, X509PublicKeyValidator, X509StructureValidator,
+    CallbackLogger, ChainValidator, Logger, StderrLogger, TbsCertificateStructureValidator,
+    Validate, Validator, VecLogger, X509CertificateValidator, X509ExtensionsValidator,
+    X509NameStructureValidator, X509PublicKeyValidator, X509StructureValidator, chain,
+    log_error_if, log_warning_if,
 };

@@ -3,7 +3,7 @@
 use std::alloc::{AllocError, Global};
 use x509_parser::certificate::{X509Certificate, X509CertificateParser};
 use x509_parser::certification_request::X509CertificationRequest;
-use x509_parser::der::{Err, FromDer, ReadError, Tries, read_any, read_any_loose};
+use x509_parser::der::{Err, FromDer, ReadError, Reader, Tries, read_any, read_any_loose};
 use x509_parser::error::X509Error;
 use x509_parser::extensions::{X509Extension, X509ExtensionParser};
 use x509_parser::revocation_list::{CertificateRevocationList, TbsCertList};

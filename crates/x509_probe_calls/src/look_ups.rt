@@ -7,7 +7,7 @@ use x509_parser::certificate::{
 };
 use x509_parser::certification_request::X509CertificationRequestInfo;
 use x509_parser::cri_attributes::ExtensionRequest;
-use x509_parser::der::{Oid, UnsignedBytes};
+use x509_parser::der::{Oid, Reader, UnsignedBytes};
 use x509_parser::error::X509Error;
 use x509_parser::extensions::X509Extension;
 use x509_parser::revocation_list::{CertificateRevocationList, RevokedCertificate, TbsCertList};

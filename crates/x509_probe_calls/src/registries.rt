@@ -1,6 +1,5 @@
 //! Names by registries of identifiers.
 
-use std::alloc::AllocError;
 use x509_parser::der::Oid;
 use x509_parser::error::{NidError, X509Error};
 use x509_parser::objects::{
@@ -45,14 +44,14 @@ fn put_own_words<'a>(oid: Oid<'a>, out: &mut Answer) {
     out.add("|");
     match own.insert(oid, OidEntry::new("first", "the first")) {
         Ok(first) => out.add(if first.is_none() { "new " } else { "old " }),
-        Err(AllocError) => out.stop(),
+        Err(_) => out.stop(),
     }
     put_called(out, &oid, &own);
     out.add("|");
     match own.insert(oid, OidEntry::new("second", "the second")) {
         Ok(Some(entry)) => out.add(entry.sn()),
         Ok(None) => out.add("-"),
-        Err(AllocError) => out.stop(),
+        Err(_) => out.stop(),
     }
     out.add(" ");
     put_called(out, &oid, &own);
@@ -63,7 +62,7 @@ fn put_words(a: &[u8], out: &mut Answer) {
     let oid = Oid::new(a);
     match oid_registry(out.alloc()) {
         Ok(table) => put_called(out, &oid, &table),
-        Err(AllocError) => out.stop(),
+        Err(_) => out.stop(),
     }
     out.add("|");
     put_own_words(oid, out);
@@ -85,7 +84,7 @@ fn put_name<'o>(name: &X509Name<'_>, oid: Oid<'o>, out: &mut Answer) {
     let alloc = out.alloc();
     match oid_registry(alloc) {
         Ok(table) => put_text(out, name.to_string_with_registry(alloc, &table)),
-        Err(AllocError) => out.stop(),
+        Err(_) => out.stop(),
     }
     out.add("|");
     let mut own: OidRegistry<'o> = OidRegistry::new(alloc);

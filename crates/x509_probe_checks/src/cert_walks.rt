@@ -2,6 +2,7 @@
 
 use crate::recorder::{Recorder, RecorderByValue, Walk, WalkByValue, number, put_end};
 use x509_parser::certificate::{TbsCertificate, X509Certificate, X509CertificateParser};
+use x509_parser::der::Reader;
 use x509_parser::error::X509Error;
 use x509_parser::visitor::{
     CertificateVisit, CertificateVisits, WalkCertificate, X509CertificateVisitor,

@@ -4,7 +4,6 @@ use crate::recorder::Recorder;
 use std::alloc::Global;
 use std::io;
 use std::io::{ErrorKind, Write};
-use x509_loggers::validate_to_vec;
 use x509_parser::certificate::{TbsCertificate, Validity, X509Certificate};
 use x509_parser::cri_attributes::ExtensionRequest;
 use x509_parser::der::{Err, FromDer};
@@ -18,6 +17,7 @@ use x509_parser::validate::{
 };
 use x509_parser::x509::{SubjectPublicKeyInfo, X509Name};
 use x509_probe_show::{Answer, Look, look_at, look_in, put_result};
+use x509_validators::validate_to_vec;
 
 // All texts, each behind a letter.
 fn put_texts(out: &mut Answer, letter: &str, texts: &[String]) {

@@ -13,7 +13,7 @@ use x509_parser::revocation_list::{CertificateRevocationList, RevokedCertificate
 use x509_parser::utils::TryClone;
 use x509_parser::x509::{RelativeDistinguishedName, X509Name};
 use x509_probe_show::{Answer, Look, Show, look_at};
-use x509_usages::PolicyList;
+use x509_values::PolicyList;
 
 /// By what a copy is compared to the value.
 trait Compare<T> {

@@ -17,7 +17,7 @@ use x509_parser::x509::{
     X509Name, X509Version,
 };
 use x509_probe_show::{Answer, Show};
-use x509_usages::PolicyList;
+use x509_values::PolicyList;
 
 // Whether a value is equal to another that is read.
 fn put_equality<'a, T: FromDer<'a, X509Error> + PartialEq + Show>(

@@ -2,7 +2,7 @@
 
 use crate::outcome::{put_located, put_marked, put_outcome, put_uncounted, put_whole};
 use x509_parser::certificate::{TbsCertificateParser, X509CertificateParser};
-use x509_parser::der::Tries;
+use x509_parser::der::{Reader, Tries};
 use x509_parser::extensions::X509ExtensionParser;
 use x509_parser::{
     parse_crl_der, parse_x509_certificate_located, parse_x509_certificate_strict, parse_x509_crl,

@@ -32,8 +32,9 @@ use x509_parser::x509::{
     X509Name, X509Version,
 };
 use x509_probe_show::{Answer, Octets, Show, Text, put_result};
-use x509_timestamps::TimestampList;
-use x509_usages::{CRLNumber, InvalidityDate, PolicyList, ReasonCodeValue, read_ns_comment};
+use x509_values::{
+    CRLNumber, InvalidityDate, PolicyList, ReasonCodeValue, TimestampList, read_ns_comment,
+};
 
 // An outcome, alone.
 fn outcome_of<T: Show, E: fmt::Debug + ReadError>(

@@ -9,8 +9,7 @@ use x509_parser::extensions::{
     SignedCertificateTimestamp,
 };
 use x509_parser::x509::ReasonCode;
-use x509_timestamps::TimestampList;
-use x509_usages::{CRLNumber, InvalidityDate, PolicyList, ReasonCodeValue};
+use x509_values::{CRLNumber, InvalidityDate, PolicyList, ReasonCodeValue, TimestampList};
 
 /// The hasher of the maps.
 pub type Hasher = BuildHasherDefault<FoldHasher>;

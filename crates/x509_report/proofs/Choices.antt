@@ -5,7 +5,7 @@ use Rattle.x509_fields.specs.declared.error.X509Error.{X509Error}
 use Rattle.x509_lists.specs.CertificateList.{certificate_list}
 use Rattle.x509_lists.specs.RevokedCertificate.{Revoked}
 use Rattle.x509_lists.specs.TbsCertList.{TbsList}
-use Rattle.x509_signed.specs.Signed.{Signed}
+use Rattle.x509_fields.specs.Signed.{Signed}
 use Rattle.x509_report_lines.specs.Blocks.{Pem, blocks_of}
 use Rattle.x509_report_objects.specs.Places.{Found}
 use Rattle.x509_report_objects.specs.declared.objects.Kind.{Kind}

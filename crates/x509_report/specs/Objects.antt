@@ -8,7 +8,7 @@ use Rattle.x509_fields.specs.declared.error.X509Error.{X509Error}
 use Rattle.x509_lists.specs.CertificateList.{certificate_list}
 use Rattle.x509_lists.specs.RevokedCertificate.{Revoked}
 use Rattle.x509_lists.specs.TbsCertList.{TbsList}
-use Rattle.x509_signed.specs.Signed.{Signed}
+use Rattle.x509_fields.specs.Signed.{Signed}
 use Rattle.x509_report_objects.specs.Attempts.{wishes_of}
 use Rattle.x509_report_objects.specs.Lists.{entry_report}
 use Rattle.x509_report_objects.specs.Objects.{object_told}

@@ -3,13 +3,13 @@ use Rattle.std.specs.Prelude.{ℕ, ◌+◌, List, [], ◌∷◌, ◌++◌, codes
 use Rattle.std.specs.Str.{bytes_eq}
 use Rattle.json.specs.Json.{Json, boolean, string}
 use Rattle.x509_der.specs.Unsigned.{unsigned_text}
-use Rattle.x509_objects.specs.Objects as objects
+use Rattle.x509_names.specs.Objects as objects
 use Rattle.x509_general_names.specs.GeneralName.{GeneralNameValue, DNSName, IPAddress}
 use Rattle.x509_extensions.specs.Extension.{Extension}
 use Rattle.x509_extensions.specs.Parsed.{Parsed, BasicConstraints, SubjectAlternativeName}
 use Rattle.x509_certs.specs.Certificate.{Certificate}
 use Rattle.x509_certs.specs.TbsCertificate.{Tbs}
-use Rattle.x509_loggers.specs.Message.{Message, warnings_of, errors_of}
+use Rattle.x509_validators.specs.Message.{Message, warnings_of, errors_of}
 use Rattle.x509_validators.specs.SignedPart.{signed_part_messages, is_signed_part_sound}
 use Rattle.x509_report_lines.specs.Says.{count, optional, list_of, record_of}
 use Rattle.x509_report_objects.specs.Extensions.{extension_report}

@@ -8,8 +8,8 @@ use Rattle.x509_extensions.specs.Extension.{Extension}
 use Rattle.x509_extensions.specs.Parsed.{Parsed, CRLNumber, InvalidityDate, ReasonCode}
 use Rattle.x509_lists.specs.RevokedCertificate.{Revoked}
 use Rattle.x509_lists.specs.TbsCertList.{TbsList}
-use Rattle.x509_objects.specs.Objects as objects
-use Rattle.x509_signed.specs.Signed.{Signed}
+use Rattle.x509_names.specs.Objects as objects
+use Rattle.x509_fields.specs.Signed.{Signed}
 use Rattle.x509_report_lines.specs.Says.{count, optional, list_of, record_of}
 use Rattle.x509_report_objects.specs.Certificates.{serial_report, version_report}
 use Rattle.x509_report_objects.specs.Extensions.{extension_report}

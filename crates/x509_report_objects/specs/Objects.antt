@@ -15,7 +15,7 @@ use Rattle.x509_lists.specs.CertificateList.{certificate_list}
 use Rattle.x509_lists.specs.TbsCertList.{TbsList}
 use Rattle.x509_requests.specs.Request.{certification_request}
 use Rattle.x509_requests.specs.RequestInfo.{RequestInfo}
-use Rattle.x509_signed.specs.Signed.{Signed}
+use Rattle.x509_fields.specs.Signed.{Signed}
 use Rattle.x509_report_lines.specs.Says.{count, items_of, list_of, optional, record_of}
 use Rattle.x509_report_objects.specs.Certificates.{certificate_members}
 use Rattle.x509_report_objects.specs.Errors.{refusal_name}

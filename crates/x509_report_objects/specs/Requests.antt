@@ -3,7 +3,7 @@ use Rattle.std.specs.Prelude.{ℕ, List, [], ◌∷◌, ◌++◌, codes, Bool, l
 use Rattle.json.specs.Json.{Json, null, string}
 use Rattle.x509_requests.specs.CriAttribute.{Attribute, ParsedAttribute, ChallengePassword, ExtensionRequest, Unsupported}
 use Rattle.x509_requests.specs.RequestInfo.{RequestInfo}
-use Rattle.x509_signed.specs.Signed.{Signed}
+use Rattle.x509_fields.specs.Signed.{Signed}
 use Rattle.x509_report_lines.specs.Says.{count, list_of, record_of}
 use Rattle.x509_report_objects.specs.Certificates.{version_report}
 use Rattle.x509_report_objects.specs.Extensions.{extension_report}

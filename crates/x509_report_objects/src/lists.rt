@@ -7,7 +7,7 @@ ghost use Rattle.x509_lists.specs.CertificateList.{list_of};
 ghost use Rattle.x509_lists.specs.RevokedCertificate.{revoked_of};
 ghost use Rattle.x509_lists.specs.TbsCertList.{tbs_list_of};
 ghost use Rattle.x509_report_lines.specs.Says.{Says, SaysMembers, SaysUnder, count, list_of as array_of};
-ghost use Rattle.x509_objects.specs.Objects as objects;
+ghost use Rattle.x509_names.specs.Objects as objects;
 ghost use Rattle.x509_report_objects.specs.Attempts.{found_of};
 ghost use Rattle.x509_report_objects.specs.Extensions.{extension_report};
 ghost use Rattle.x509_report_objects.specs.Lists.{content_members, entry_members, entry_report, first_parsed, invalidity_in, list_head_members, list_members, list_tail_members, number_members, number_report, reason_in, update_members};
@@ -17,10 +17,8 @@ use crate::extensions::extensions_under;
 use crate::objects::{Found, say_place, size_under};
 use std::alloc::{AllocError, Global};
 use x509_extensions::{ParsedExtension, X509Extension};
-use x509_fields::{
-    OID_X509_EXT_CRL_NUMBER, OID_X509_EXT_INVALIDITY_DATE, OID_X509_EXT_REASON_CODE,
-};
 use x509_lists::{CertificateRevocationList, RevokedCertificate, TbsCertList};
+use x509_names::{OID_X509_EXT_CRL_NUMBER, OID_X509_EXT_INVALIDITY_DATE, OID_X509_EXT_REASON_CODE};
 use x509_report_lines::Line;
 use x509_report_values::{count_under, hex_under, null_under, optional_under, value_under};
 

@@ -14,8 +14,8 @@ ghost use Rattle.x509_report_values.specs.Addresses.{address_text};
 use std::alloc::{AllocError, Global};
 use x509_der::Oid;
 use x509_extensions::{ParsedExtension, X509Extension, get_extension_unique};
-use x509_fields::OID_X509_EXT_BASIC_CONSTRAINTS;
 use x509_general_names::GeneralName;
+use x509_names::OID_X509_EXT_BASIC_CONSTRAINTS;
 use x509_report_lines::Line;
 use x509_report_values::{address_text, truth_under};
 

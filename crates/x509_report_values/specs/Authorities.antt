@@ -1,13 +1,13 @@
 -- What a report says of the values of extensions that say where more is found, and who signed.
 use Rattle.std.specs.Prelude.{ℕ, List, [], ◌∷◌, ◌++◌, codes, Option, Some, None}
 use Rattle.json.specs.Json.{Json, null, boolean, string}
-use Rattle.x509_parts.specs.Texts.{set_names}
-use Rattle.x509_authorities.specs.AuthorityKeyIdentifier.{AuthorityKeyIdentifierValue}
-use Rattle.x509_authorities.specs.DistributionPointName.{PointName, FullName, NameRelativeToCRLIssuer}
-use Rattle.x509_authorities.specs.DistributionPoints.{Point}
-use Rattle.x509_authorities.specs.InformationAccess.{Access}
-use Rattle.x509_authorities.specs.IssuingDistributionPoint.{IssuingPoint}
-use Rattle.x509_authorities.specs.ReasonFlags.{reason_words}
+use Rattle.x509_fields.specs.Texts.{set_names}
+use Rattle.x509_general_names.specs.AuthorityKeyIdentifier.{AuthorityKeyIdentifierValue}
+use Rattle.x509_general_names.specs.DistributionPointName.{PointName, FullName, NameRelativeToCRLIssuer}
+use Rattle.x509_general_names.specs.DistributionPoints.{Point}
+use Rattle.x509_general_names.specs.InformationAccess.{Access}
+use Rattle.x509_general_names.specs.IssuingDistributionPoint.{IssuingPoint}
+use Rattle.x509_general_names.specs.ReasonFlags.{reason_words}
 use Rattle.x509_report_lines.specs.Says.{count, optional, list_of, record_of}
 use Rattle.x509_report_values.specs.GeneralNames.{general_name_report}
 use Rattle.x509_report_values.specs.Identifiers.{oid_members}

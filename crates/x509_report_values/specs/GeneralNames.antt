@@ -2,8 +2,8 @@
 use Rattle.std.specs.Prelude.{ℕ, List, [], ◌∷◌, ◌++◌, codes, Option, Some, None}
 use Rattle.json.specs.Json.{Json, string}
 use Rattle.x509_der.specs.Oid.{oid_text}
-use Rattle.x509_fields.specs.NameTexts.{lossy_name_text}
-use Rattle.x509_objects.specs.Objects.{registered_name}
+use Rattle.x509_names.specs.NameTexts.{lossy_name_text}
+use Rattle.x509_names.specs.Objects.{registered_name}
 use Rattle.x509_general_names.specs.GeneralName.{GeneralNameValue, OtherName, RFC822Name, DNSName, X400Address, DirectoryName, EDIPartyName, URI, IPAddress, RegisteredID, Invalid}
 use Rattle.x509_general_names.specs.NameConstraints.{Constraints}
 use Rattle.x509_report_lines.specs.Says.{count, optional, list_of, record_of}

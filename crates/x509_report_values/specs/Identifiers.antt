@@ -2,7 +2,7 @@
 use Rattle.std.specs.Prelude.{ℕ, List, [], ◌∷◌, codes}
 use Rattle.json.specs.Json.{Json, string}
 use Rattle.x509_der.specs.Oid.{oid_text}
-use Rattle.x509_objects.specs.Objects.{registered_name}
+use Rattle.x509_names.specs.Objects.{registered_name}
 use Rattle.x509_report_lines.specs.Says.{optional, record_of}
 
 abbrev pub oid_members : List ℕ → List (List ℕ × Json)

@@ -2,9 +2,9 @@
 use Rattle.std.specs.Prelude.{ℕ, List, [], ◌∷◌, ◌++◌, codes, Result, Ok, Err}
 use Rattle.json.specs.Json.{Json, null, string}
 use Rattle.x509_fields.specs.declared.error.X509Error.{X509Error}
-use Rattle.x509_fields.specs.Names.{Attribute, Name, string_in}
-use Rattle.x509_fields.specs.NameTexts.{lossy_name_text}
-use Rattle.x509_objects.specs.Objects.{registered_name}
+use Rattle.x509_names.specs.Names.{Attribute, Name, string_in}
+use Rattle.x509_names.specs.NameTexts.{lossy_name_text}
+use Rattle.x509_names.specs.Objects.{registered_name}
 use Rattle.x509_report_lines.specs.Says.{count, list_of, record_of}
 use Rattle.x509_report_values.specs.Identifiers.{oid_members}
 use Rattle.x509_report_values.specs.Octets.{hex}

@@ -1,7 +1,7 @@
 -- What a report says of a log's promise to publish a certificate (RFC 6962, 3.2).
 use Rattle.std.specs.Prelude.{ℕ, List, [], ◌∷◌, ◌++◌, codes}
 use Rattle.json.specs.Json.{Json}
-use Rattle.x509_timestamps.specs.Timestamp.{SignedValue, TimestampValue}
+use Rattle.x509_values.specs.Timestamp.{SignedValue, TimestampValue}
 use Rattle.x509_report_lines.specs.Says.{count, record_of}
 use Rattle.x509_report_values.specs.Octets.{hex}
 

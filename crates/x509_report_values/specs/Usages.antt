@@ -2,14 +2,14 @@
 use Rattle.std.specs.Prelude.{ℕ, Bool, List, [], ◌∷◌, ◌++◌, codes}
 use Rattle.json.specs.Json.{Json, boolean, string}
 use Rattle.x509_fields.specs.Version.{reason_word}
-use Rattle.x509_parts.specs.Texts.{set_names}
-use Rattle.x509_usages.specs.BasicConstraints.{BasicConstraintsValue}
-use Rattle.x509_usages.specs.ExtendedKeyUsage.{Usages}
-use Rattle.x509_usages.specs.KeyUsage.{key_usage_words}
-use Rattle.x509_usages.specs.NsCertType.{ns_cert_type_words}
-use Rattle.x509_usages.specs.Policies.{PolicyQualifierValue, PolicyValue}
-use Rattle.x509_usages.specs.PolicyConstraints.{PolicyConstraintsValue}
-use Rattle.x509_usages.specs.PolicyMapping.{PolicyMappingValue}
+use Rattle.x509_fields.specs.Texts.{set_names}
+use Rattle.x509_values.specs.BasicConstraints.{BasicConstraintsValue}
+use Rattle.x509_values.specs.ExtendedKeyUsage.{Usages}
+use Rattle.x509_values.specs.KeyUsage.{key_usage_words}
+use Rattle.x509_values.specs.NsCertType.{ns_cert_type_words}
+use Rattle.x509_values.specs.Policies.{PolicyQualifierValue, PolicyValue}
+use Rattle.x509_values.specs.PolicyConstraints.{PolicyConstraintsValue}
+use Rattle.x509_values.specs.PolicyMapping.{PolicyMappingValue}
 use Rattle.x509_report_lines.specs.Flags.{set_words}
 use Rattle.x509_report_lines.specs.Says.{optional, count, list_of, record_of}
 use Rattle.x509_report_values.specs.Identifiers.{oid_members, oid_report}

@@ -3,14 +3,14 @@
 ghost use Rattle.std.specs.Prelude.{◌≡◌, ℕ, map};
 ghost use Rattle.json.specs.Json as json;
 ghost use Rattle.x509_der.specs.Promises.{option_view};
-ghost use Rattle.x509_authorities.specs.AuthorityKeyIdentifier.{AuthorityKeyIdentifierValue, authority_key_identifier_of};
-ghost use Rattle.x509_authorities.specs.DistributionPointName.{FullName, NameRelativeToCRLIssuer, point_name_of};
-ghost use Rattle.x509_authorities.specs.DistributionPoints.{Point, point_of};
-ghost use Rattle.x509_authorities.specs.InformationAccess.{Access, access_of};
-ghost use Rattle.x509_authorities.specs.IssuingDistributionPoint.{IssuingPoint, issuing_point_of};
-ghost use Rattle.x509_authorities.specs.ReasonFlags.{reason_flags_of};
+ghost use Rattle.x509_general_names.specs.AuthorityKeyIdentifier.{AuthorityKeyIdentifierValue, authority_key_identifier_of};
+ghost use Rattle.x509_general_names.specs.DistributionPointName.{FullName, NameRelativeToCRLIssuer, point_name_of};
+ghost use Rattle.x509_general_names.specs.DistributionPoints.{Point, point_of};
+ghost use Rattle.x509_general_names.specs.InformationAccess.{Access, access_of};
+ghost use Rattle.x509_general_names.specs.IssuingDistributionPoint.{IssuingPoint, issuing_point_of};
+ghost use Rattle.x509_general_names.specs.ReasonFlags.{reason_flags_of};
 ghost use Rattle.x509_report_lines.specs.Says.{SaysMembers, SaysUnder, list_of};
-ghost use Rattle.x509_fields.specs.Names.{relative_name_of};
+ghost use Rattle.x509_names.specs.Names.{relative_name_of};
 ghost use Rattle.x509_general_names.specs.GeneralName.{general_name_of};
 ghost use Rattle.x509_report_values.specs.Authorities.{reason_flags_report, authority_key_identifier_report, name_members, point_name_members, point_report, cover_members, issuing_point_report, access_report};
 
@@ -19,12 +19,11 @@ use crate::identifiers::oid_members;
 use crate::said::{Said, list_under, optional_list_under, optional_under, value_under};
 use crate::under::{count_under, null_under, optional_hex_under, truth_under};
 use std::alloc::{AllocError, Global};
-use x509_authorities::{
+use x509_general_names::{
     AccessDescription, AuthorityKeyIdentifier, CRLDistributionPoint, DistributionPointName,
-    IssuingDistributionPoint, KeyIdentifier, ReasonFlags,
+    GeneralName, IssuingDistributionPoint, KeyIdentifier, ReasonFlags,
 };
-use x509_fields::RelativeDistinguishedName;
-use x509_general_names::GeneralName;
+use x509_names::RelativeDistinguishedName;
 use x509_report_lines::Line;
 
 impl Said for ReasonFlags {

@@ -1,11 +1,11 @@
 //! What a report says of named bits.
 
 ghost use Rattle.json.specs.Json as json;
-ghost use Rattle.x509_parts.specs.BitNames.{names_left};
+ghost use Rattle.x509_fields.specs.BitNames.{names_left};
 ghost use Rattle.x509_report_lines.specs.Says.{SaysEach, SaysUnder, list_of};
 
 use std::alloc::AllocError;
-use x509_parts::BitNames;
+use x509_fields::BitNames;
 use x509_report_lines::Line;
 
 /// The names of the bits that are set, one after another.

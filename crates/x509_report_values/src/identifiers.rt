@@ -9,7 +9,7 @@ use crate::said::Said;
 use crate::under::{optional_text_under, shown_under};
 use std::alloc::{AllocError, Global};
 use x509_der::Oid;
-use x509_objects::registered_name;
+use x509_names::registered_name;
 use x509_report_lines::Line;
 
 /// An identifier and what it is called, as two members.

@@ -1,7 +1,7 @@
 //! What reports say of names.
 
 ghost use Rattle.std.specs.Prelude.{◌≡◌, List};
-ghost use Rattle.x509_fields.specs.Names.{Attribute, Name, attribute_of, relative_name_of, name_of, string_in};
+ghost use Rattle.x509_names.specs.Names.{Attribute, Name, attribute_of, relative_name_of, name_of, string_in};
 ghost use Rattle.x509_report_lines.specs.Says.{Says, SaysEach, SaysMembers, list_of};
 ghost use Rattle.x509_report_values.specs.Names.{attribute_report, relative_name_report, name_report, value_members};
 
@@ -9,7 +9,7 @@ use crate::identifiers::oid_members;
 use crate::said::Said;
 use crate::under::{count_under, hex_under, null_under, text_under};
 use std::alloc::{AllocError, Global};
-use x509_fields::{AttributeTypeAndValue, RelativeDistinguishedName, X509Name};
+use x509_names::{AttributeTypeAndValue, RelativeDistinguishedName, X509Name};
 use x509_report_lines::Line;
 
 /// The value of an attribute: its text, or its octets where it isn't one.

@@ -1,7 +1,7 @@
 //! What reports say of a log's promise to publish a certificate.
 
 ghost use Rattle.std.specs.Prelude.{◌≡◌};
-ghost use Rattle.x509_timestamps.specs.Timestamp.{TimestampValue, signed_of, timestamp_of};
+ghost use Rattle.x509_values.specs.Timestamp.{TimestampValue, signed_of, timestamp_of};
 ghost use Rattle.x509_report_lines.specs.Says.{SaysMembers};
 ghost use Rattle.x509_report_values.specs.Timestamps.{promise_members, signed_members, timestamp_report};
 
@@ -9,7 +9,7 @@ use crate::said::Said;
 use crate::under::{count_under, hex_under};
 use std::alloc::{AllocError, Global};
 use x509_report_lines::Line;
-use x509_timestamps::{DigitallySigned, SignedCertificateTimestamp};
+use x509_values::{DigitallySigned, SignedCertificateTimestamp};
 
 /// What is promised, and by whom.
 fn say_promise(

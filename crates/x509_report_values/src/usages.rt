@@ -1,13 +1,13 @@
 //! What reports say of the values of extensions that say what a certificate may be used for.
 
 ghost use Rattle.std.specs.Prelude.{◌≡◌, ℕ, map};
-ghost use Rattle.x509_usages.specs.BasicConstraints.{BasicConstraintsValue, basic_constraints_of};
-ghost use Rattle.x509_usages.specs.ExtendedKeyUsage.{Usages, usages_of};
-ghost use Rattle.x509_usages.specs.KeyUsage.{key_usage_of};
-ghost use Rattle.x509_usages.specs.NsCertType.{ns_cert_type_of};
-ghost use Rattle.x509_usages.specs.Policies.{PolicyQualifierValue, PolicyValue, policy_qualifier_of, policy_of};
-ghost use Rattle.x509_usages.specs.PolicyConstraints.{PolicyConstraintsValue, policy_constraints_of};
-ghost use Rattle.x509_usages.specs.PolicyMapping.{PolicyMappingValue, policy_mapping_of};
+ghost use Rattle.x509_values.specs.BasicConstraints.{BasicConstraintsValue, basic_constraints_of};
+ghost use Rattle.x509_values.specs.ExtendedKeyUsage.{Usages, usages_of};
+ghost use Rattle.x509_values.specs.KeyUsage.{key_usage_of};
+ghost use Rattle.x509_values.specs.NsCertType.{ns_cert_type_of};
+ghost use Rattle.x509_values.specs.Policies.{PolicyQualifierValue, PolicyValue, policy_qualifier_of, policy_of};
+ghost use Rattle.x509_values.specs.PolicyConstraints.{PolicyConstraintsValue, policy_constraints_of};
+ghost use Rattle.x509_values.specs.PolicyMapping.{PolicyMappingValue, policy_mapping_of};
 ghost use Rattle.json.specs.Json as json;
 ghost use Rattle.x509_report_lines.specs.Says.{SaysUnder, list_of};
 ghost use Rattle.x509_report_values.specs.Usages.{basic_constraints_report, key_usage_report, ns_cert_type_report, policy_constraints_report, inhibit_any_policy_report, qualifier_report, policy_report, policy_mapping_report, extended_key_usage_report, reason_report};
@@ -19,7 +19,7 @@ use crate::under::{count_under, hex_under, optional_count_under, text_under, tru
 use std::alloc::{AllocError, Global};
 use x509_fields::ReasonCode;
 use x509_report_lines::{Line, set_words_under};
-use x509_usages::{
+use x509_values::{
     BasicConstraints, ExtendedKeyUsage, InhibitAnyPolicy, KeyUsage, NSCertType, PolicyConstraints,
     PolicyInformation, PolicyMapping, PolicyQualifierInfo,
 };

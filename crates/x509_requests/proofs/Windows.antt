@@ -2,8 +2,8 @@
 use Rattle.std.proofs.Common.{◌≡◌, ℕ, List, ◌++◌, ap, ◌∙◌}
 use Rattle.x509_der.specs.Laws.{IsBytes}
 use Rattle.x509_der.specs.Promises.{IsFront}
-use Rattle.x509_signed.specs.Signed.{Signed}
-use Rattle.x509_signed.proofs.SignedParts.{signed_front_stands}
+use Rattle.x509_fields.specs.Signed.{Signed}
+use Rattle.x509_fields.proofs.SignedParts.{signed_front_stands}
 use Rattle.x509_requests.specs.RequestInfo.{RequestInfo, request_info, request_info_laws}
 use Rattle.x509_requests.specs.Request.{certification_request, certification_request_laws, RequestStands}
 

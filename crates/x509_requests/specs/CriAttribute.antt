@@ -12,7 +12,7 @@ use Rattle.x509_der.specs.Oid.{oid_bytes}
 use Rattle.x509_der.specs.Plan.{Outcome, ◌>>=◌, give, container, mapped, or_refuse, with_bytes, plain_when, PlainInside, marks_value, is_read}
 use Rattle.x509_der.specs.Primitives.{is_constructed, has_number}
 use Rattle.x509_der.specs.Reading.{Element, element_of, loose}
-use Rattle.x509_objects.specs.Objects.{pkcs}
+use Rattle.x509_names.specs.Objects.{pkcs}
 use Rattle.x509_fields.specs.declared.error.X509Error.{X509Error}
 use Rattle.x509_fields.specs.declared.error.X509Error.TheVariants as x509
 use Rattle.x509_fields.specs.Fields.{Field, lifted, named}

@@ -11,7 +11,7 @@ use Rattle.x509_der.proofs.WantOfMemory.{kind_refused}
 use Rattle.x509_fields.specs.declared.error.X509Error.TheVariants as x509
 use Rattle.x509_fields.specs.Errors.{is_x509_memory}
 use Rattle.x509_fields.specs.Fields.{Field, named}
-use Rattle.x509_fields.specs.NameTexts.{utf8_text, utf16_text}
+use Rattle.x509_names.specs.NameTexts.{utf8_text, utf16_text}
 
 -- whether a number is a character of Unicode, and no surrogate
 abbrev pub is_character : ℕ → Bool

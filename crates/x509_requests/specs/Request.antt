@@ -9,7 +9,7 @@ use Rattle.x509_fields.specs.Algorithm.{algorithm_of}
 use Rattle.x509_fields.specs.declared.error.X509Error.TheVariants as x509
 use Rattle.x509_fields.specs.Errors.{is_x509_memory}
 use Rattle.x509_fields.specs.Fields.{Field}
-use Rattle.x509_signed.specs.Signed.{Signed, signed, signed_heads, signed_laws, SignedStands}
+use Rattle.x509_fields.specs.Signed.{Signed, signed, signed_heads, signed_laws, SignedStands}
 use Rattle.x509_requests.specs.RequestInfo.{RequestInfo, request_info, info_of, info_heads, request_info_laws}
 use Rattle.x509_requests.specs.declared.request.X509CertificationRequest.{X509CertificationRequest}
 

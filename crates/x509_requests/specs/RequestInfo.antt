@@ -13,7 +13,7 @@ use Rattle.x509_der.proofs.Marking.{marked, bare_header_marked}
 use Rattle.x509_fields.specs.declared.error.X509Error.TheVariants as x509
 use Rattle.x509_fields.specs.Errors.{is_x509_memory}
 use Rattle.x509_fields.specs.Fields.{Field, sequence, as_x509_renames}
-use Rattle.x509_fields.specs.Names.{Name, name, name_of, name_heads, name_laws}
+use Rattle.x509_names.specs.Names.{Name, name, name_of, name_heads, name_laws}
 use Rattle.x509_fields.specs.Version.{version, version_laws}
 use Rattle.x509_keys.specs.KeyInfo.{KeyInfo, key_info, key_info_of, key_info_heads}
 use Rattle.x509_keys.specs.Laws.{key_info_laws}

@@ -3,7 +3,7 @@
 ghost use Rattle.std.specs.Prelude.{◌≡◌};
 ghost use Rattle.x509_requests.specs.CriAttribute.{kind_of};
 
-use x509_fields::{OID_PKCS9_CHALLENGE_PASSWORD, OID_PKCS9_EXTENSION_REQUEST};
+use x509_names::{OID_PKCS9_CHALLENGE_PASSWORD, OID_PKCS9_EXTENSION_REQUEST};
 
 /// The values that are read, by the attribute's identifier.
 #[derive(Clone, Copy, Debug)]

@@ -4,8 +4,9 @@ ghost use Rattle.std.specs.Prelude.{◌≡◌, ◌++◌, List, ℕ};
 ghost use Rattle.x509_der.specs.Laws.{IsBytes, IsMarkedElement};
 ghost use Rattle.x509_der.specs.Promises.{IsFront};
 ghost use Rattle.x509_fields.specs.Errors.{is_x509_memory};
-ghost use Rattle.x509_signed.specs.Signed.{Signed};
+ghost use Rattle.x509_fields.specs.Signed.{Signed};
 ghost use Rattle.x509_requests.specs.CriAttribute.{attribute};
+ghost use Rattle.x509_requests.specs.PasswordTexts.{password};
 ghost use Rattle.x509_requests.specs.RequestInfo.{RequestInfo, request_info};
 ghost use Rattle.x509_requests.specs.Request.{certification_request, RequestStands};
 
@@ -15,6 +16,7 @@ ghost use Rattle.x509_requests.specs.Request.{certification_request, RequestStan
 /// is what is proved.
 pub const fn grammar_laws()
     ensures attribute { IsMarkedElement is_x509_memory attribute }
+    ensures password { IsMarkedElement is_x509_memory password }
     ensures request_info { IsMarkedElement is_x509_memory request_info }
     ensures certification_request { IsMarkedElement is_x509_memory certification_request }
     ensures info_window { (place : List ℕ) (i : RequestInfo) (next : List ℕ) → request_info.Is place i next → place ≡ i.raw ++ next }

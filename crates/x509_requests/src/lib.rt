@@ -1,4 +1,5 @@
-//! Certification requests (RFC 2986) and their attributes (RFC 2985, section 5.4).
+//! Certification requests (RFC 2986) and their attributes (RFC 2985, section 5.4), whole. It may use
+//! extensions, keys and names, and not the other signed structures.
 #![tactic(auto)]
 
 mod attribute_kind;

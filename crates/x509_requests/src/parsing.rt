@@ -7,9 +7,8 @@ ghost use Rattle.x509_requests.specs.Request.{RequestStands, certification_reque
 
 use crate::request::X509CertificationRequest;
 use std::alloc::Global;
-use x509_der::{Err, FromDer, Located, Tries};
-use x509_fields::{X509Error, X509Result};
-use x509_signed::read_plain;
+use x509_der::{Err, FromDer, Located, Reader, Tries};
+use x509_fields::{Plainly, X509Error, X509Result};
 
 /// Reads the certification request at the front of the bytes (RFC 2986, section 4.2), and gives what stands behind it.
 ///
@@ -62,7 +61,7 @@ pub fn parse_x509_csr_strict<'a>(
     ensures exact { ReadsExactly is_x509_memory true (λ x. (x.0.now, certification_request_of x.1)) plain_request i.now result }
     ensures stands { IfOk result (λ x. RequestStands i.now (certification_request_of x.1) x.0.now) }
 {
-    match read_plain::<X509CertificationRequest>(alloc, &mut Tries::new(), i) {
+    match Plainly.parse(alloc, i) {
         Ok((rest, request)) => Ok((rest, request)),
         Err(e) => Err(e),
     }

@@ -5,13 +5,14 @@ ghost use Rattle.x509_der.specs.Looks.{behind, is_element};
 ghost use Rattle.x509_der.specs.Place.{at, outside_of};
 ghost use Rattle.x509_fields.specs.declared.error.X509Error.TheVariants.{OutOfMemory};
 ghost use Rattle.x509_fields.specs.Errors.{is_x509_memory};
-ghost use Rattle.x509_fields.specs.NameTexts.{IsText};
+ghost use Rattle.x509_names.specs.NameTexts.{IsText};
 ghost use Rattle.x509_requests.specs.PasswordTexts.{utf32_text, password_text, password};
 ghost use Rattle.x509_der.specs.Promises.{AnswersAt};
 
 use std::alloc::Global;
 use x509_der::{Class, Err, Outside, Place, Refused, Tag, named};
-use x509_fields::{X509Error, utf8_text, utf16_text};
+use x509_fields::X509Error;
+use x509_names::{utf8_text, utf16_text};
 
 /// A password by which a certificate can be revoked (RFC 2985, section 5.4.1).
 #[derive(Debug, Drop, PartialEq, Eq)]

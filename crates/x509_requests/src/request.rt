@@ -3,7 +3,7 @@
 ghost use Rattle.std.specs.Prelude.{◌≡◌, option_map, true};
 ghost use Rattle.x509_der.specs.Primitives.{is_constructed};
 ghost use Rattle.x509_der.specs.Reading.{strict};
-ghost use Rattle.x509_signed.specs.Signed.{Signed};
+ghost use Rattle.x509_fields.specs.Signed.{Signed};
 ghost use Rattle.x509_requests.specs.RequestInfo.{RequestInfo};
 ghost use Rattle.x509_requests.specs.Requested.{first_requested, requested_left};
 ghost use Rattle.x509_requests.specs.Request.{certification_request_of, certification_request_heads, certification_request, certification_request_laws};
@@ -12,9 +12,8 @@ use crate::cri_attribute::ParsedCriAttribute;
 use crate::request_info::X509CertificationRequestInfo;
 use crate::requested_iter::RequestedIter;
 use std::alloc::Global;
-use x509_der::{BitString, FromDer, Outside, Place, Refused, Tries, ok};
-use x509_fields::{AlgorithmIdentifier, X509Error};
-use x509_signed::{Signed, read_signed};
+use x509_der::{BitString, FromDer, OfType, Outside, Place, Refused, Tries, ok};
+use x509_fields::{AlgorithmIdentifier, Signed, X509Error, read_signed};
 
 /// A request for a certificate (RFC 2986, section 4.2). Its signature is not looked into.
 ///
@@ -96,7 +95,7 @@ impl<'a> FromDer<'a, X509Error> for X509CertificationRequest<'a> {
                 raw,
             },
             plain,
-        ) = ok!(read_signed(alloc, tries, place));
+        ) = ok!(read_signed(&OfType, alloc, tries, place));
         let request = X509CertificationRequest {
             certification_request_info: tbs,
             signature_algorithm,

@@ -11,8 +11,9 @@ use crate::cri_attribute_iter::CriAttributeIter;
 use crate::request_attributes::read_attributes;
 use std::alloc::Global;
 use x509_der::{Fields, FromDer, Outside, Place, Refused, Sequence, Tries, ok};
-use x509_fields::{X509Error, X509Name, X509Version, sequence_at};
+use x509_fields::{X509Error, X509Version, sequence_at};
 use x509_keys::SubjectPublicKeyInfo;
+use x509_names::X509Name;
 
 /// The part of a certification request that is signed (RFC 2986, section 4.1).
 ///

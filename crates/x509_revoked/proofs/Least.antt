@@ -7,7 +7,7 @@ use Rattle.std.proofs.lemmas.List.Elements.{All-nil, All-cons, All-weaker, All-c
 use Rattle.std.proofs.lemmas.List.Sorted.{All-permutation, Contains-permutation}
 use Rattle.std.proofs.lemmas.Bool.Decides.{nat_tests}
 use Rattle.x509_lists.specs.FindRevoked.{first_of}
-use Rattle.x509_revoked.specs.Entries.{Indexed, position_in}
+use Rattle.x509_revoked.specs.Entries.{Indexed, indexed_from, position_in}
 
 abbrev pub Lacks : ℕ → Indexed → Type 0
 Lacks n x = x.number ≡ n → ⊥
@@ -49,11 +49,6 @@ least_tail x xs n None other h = All-cons (Lacks n) x xs other h
 least_tail x xs n (Some p) other h = (contains_tail x (record { number = n; position = p }) xs h.0, All-cons (IsBehind n p) x xs (λ same. absurd (other same)) h.1)
 
 -- ---- in a list
-
--- the numbers with their positions, from this one on
-abbrev pub indexed_from : ℕ → List ℕ → List Indexed
-indexed_from k [] = []
-indexed_from k (n ∷ ns) = record { number = n; position = k } ∷ indexed_from (k + 1) ns
 
 pub indexed_more : (k : ℕ) (ns : List ℕ) (n : ℕ) → indexed_from k (ns ++ n ∷ []) ≡ indexed_from k ns ++ record { number = n; position = k + length ns } ∷ []
 indexed_more k [] n = ap (λ p. record { number = n; position = p } ∷ []) (omega arith)

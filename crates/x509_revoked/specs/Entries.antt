@@ -1,5 +1,5 @@
 -- Serials with the positions of their entries, in order of the serials.
-use Rattle.std.specs.Prelude.{ℕ, ◌<◌, ◌≤◌, List, [], ◌∷◌, Option, Some, None, length, cond, ◌==◌, slice_index_or}
+use Rattle.std.specs.Prelude.{ℕ, ◌<◌, ◌≤◌, ◌+◌, List, [], ◌∷◌, Option, Some, None, length, cond, ◌==◌, slice_index_or}
 use Rattle.x509_der.specs.Unsigned.{unsigned_number}
 use Rattle.x509_revoked.specs.declared.entry.Entry.{Entry}
 
@@ -10,6 +10,11 @@ pub record Indexed : Type 0 where
 
 abbrev pub indexed : Entry → Indexed
 indexed e = record { number = unsigned_number e.serial; position = e.position }
+
+-- the numbers with their positions, from this one on
+abbrev pub indexed_from : ℕ → List ℕ → List Indexed
+indexed_from k [] = []
+indexed_from k (n ∷ ns) = record { number = n; position = k } ∷ indexed_from (k + 1) ns
 
 -- the position that stands first with the number
 abbrev pub position_in : List Indexed → ℕ → Option ℕ

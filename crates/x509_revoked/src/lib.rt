@@ -1,4 +1,5 @@
-//! Look-ups of serials on a list of revoked certificates (RFC 5280, section 5), in a few comparisons.
+//! Look-ups of serials on a list of revoked certificates (RFC 5280, section 5), in a few comparisons. It may use
+//! x509_lists.
 #![tactic(auto)]
 
 mod entry;

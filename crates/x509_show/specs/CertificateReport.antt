@@ -3,7 +3,7 @@ use Rattle.std.specs.Prelude.{ℕ, List, ◌++◌, true, false, length, flat_map
 use Rattle.std.specs.Fmt.{decimal}
 use Rattle.x509_der.specs.Hex.{hex_text}
 use Rattle.x509_der.specs.Oid.{oid_text}
-use Rattle.x509_fields.specs.NameTexts.{shown_name}
+use Rattle.x509_names.specs.NameTexts.{shown_name}
 use Rattle.x509_fields.specs.Times.{time_text}
 use Rattle.x509_fields.specs.Version.{version_text}
 use Rattle.x509_certs.specs.Certificate.{Certificate, certificate, certificate_by}

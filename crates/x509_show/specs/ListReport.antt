@@ -3,13 +3,13 @@ use Rattle.std.specs.Prelude.{ℕ, List, ◌++◌, Option, Some, None, length, f
 use Rattle.std.specs.Fmt.{decimal}
 use Rattle.x509_der.specs.Hex.{hex_text}
 use Rattle.x509_der.specs.Oid.{oid_text}
-use Rattle.x509_fields.specs.NameTexts.{shown_name}
+use Rattle.x509_names.specs.NameTexts.{shown_name}
 use Rattle.x509_fields.specs.Times.{time_text}
 use Rattle.x509_fields.specs.Version.{version_text}
 use Rattle.x509_lists.specs.CertificateList.{certificate_list, plain_list}
 use Rattle.x509_lists.specs.RevokedCertificate.{Revoked}
 use Rattle.x509_lists.specs.TbsCertList.{TbsList}
-use Rattle.x509_signed.specs.Signed.{Signed}
+use Rattle.x509_fields.specs.Signed.{Signed}
 use Rattle.x509_show.specs.FrontReport.{IsFrontReport}
 use Rattle.x509_show.specs.Lines.{line, extension_line}
 use Rattle.x509_show.specs.Report.{Report}

@@ -2,12 +2,12 @@
 use Rattle.std.specs.Prelude.{ℕ, List, ◌++◌, length, flat_map, codes}
 use Rattle.std.specs.Fmt.{decimal}
 use Rattle.x509_der.specs.Oid.{oid_text}
-use Rattle.x509_fields.specs.NameTexts.{shown_name}
+use Rattle.x509_names.specs.NameTexts.{shown_name}
 use Rattle.x509_fields.specs.Version.{version_text}
 use Rattle.x509_requests.specs.CriAttribute.{Attribute}
 use Rattle.x509_requests.specs.Request.{certification_request, plain_request}
 use Rattle.x509_requests.specs.RequestInfo.{RequestInfo}
-use Rattle.x509_signed.specs.Signed.{Signed}
+use Rattle.x509_fields.specs.Signed.{Signed}
 use Rattle.x509_show.specs.FrontReport.{IsFrontReport}
 use Rattle.x509_show.specs.Lines.{line}
 use Rattle.x509_show.specs.Report.{Report}

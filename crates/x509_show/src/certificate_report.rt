@@ -12,6 +12,7 @@ use crate::report::Report;
 use crate::stop::Stop;
 use std::alloc::Global;
 use x509_certs::{X509Certificate, X509CertificateParser, parse_x509_certificate_strict};
+use x509_der::Reader;
 
 impl Shown for X509Certificate<'_> {
     ghost Value = { Certificate };

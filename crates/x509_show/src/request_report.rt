@@ -4,7 +4,7 @@ ghost use Rattle.std.specs.Prelude.{◌≡◌, ◌++◌, OnOk, MatchResult, flat
 ghost use Rattle.x509_requests.specs.CriAttribute.{attribute_of};
 ghost use Rattle.x509_requests.specs.Request.{certification_request_of};
 ghost use Rattle.x509_requests.specs.RequestInfo.{RequestInfo};
-ghost use Rattle.x509_signed.specs.Signed.{Signed};
+ghost use Rattle.x509_fields.specs.Signed.{Signed};
 ghost use Rattle.x509_show.specs.declared.stop.Stop.TheVariants.{Memory};
 ghost use Rattle.x509_show.specs.Report.{IsOnly};
 ghost use Rattle.x509_show.specs.RequestReport.{IsRequestReport, IsStrictRequestReport, attribute_line, request_text};

@@ -1,8 +1,8 @@
 -- What a validator and a visitor of a user's own say.
 use Rattle.std.specs.Prelude.{◌≡◌, ℕ, ◌+◌, ◌-◌, ◌^◌, min, List, length, nat_lt, codes, if◌then◌else◌, Ok}
-use Rattle.x509_loggers.specs.Message.{Message, warning_if}
-use Rattle.x509_loggers.specs.Visits.{Visited}
-use Rattle.x509_cert_visitor.specs.Events.{Event, extension}
+use Rattle.x509_validators.specs.Message.{Message, warning_if}
+use Rattle.x509_validators.specs.Visits.{Visited}
+use Rattle.x509_visitors.specs.CertificateEvents.{Event, extension}
 
 -- a serial must not be longer than 20 octets (RFC 5280, 4.1.2.2)
 unfoldable pub serial_warnings : List ℕ → List Message

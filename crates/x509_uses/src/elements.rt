@@ -2,7 +2,7 @@
 
 ghost use Rattle.std.specs.Prelude.{◌≡◌};
 ghost use Rattle.std.specs.Option.{is_some};
-ghost use Rattle.x509_objects.specs.Registry.{registered};
+ghost use Rattle.x509_names.specs.Registry.{registered};
 
 use std::alloc::{AllocError, Global};
 use x509_parser::der::{

@@ -1,5 +1,5 @@
-//! What a user can conclude from the contracts of the reader: five short callers, a validator and visitors. Only the two walks that
-//! change nothing have proof files, which apply two lemmas of `x509_loggers`.
+//! What a user can conclude from the contracts of the reader: five short callers, a validator and visitors. Only the two walks
+//! that change nothing have proof files, which apply two lemmas of `x509_validators`.
 //!
 //! Three words of the contracts below say what a certificate is. `certificate deep` is the grammar, with what the values of
 //! extensions say or without (RFC 5280, section 4.1); `certificate_of` is the value that a certificate in memory stands for;
@@ -14,7 +14,7 @@ ghost use Rattle.x509_uses.specs.Conclusions.{HoldsTwo, IsSignedPartOf, IsValidA
 
 use std::alloc::Global;
 use x509_parser::certificate::{X509Certificate, X509CertificateParser};
-use x509_parser::der::Tries;
+use x509_parser::der::{Reader, Tries};
 use x509_parser::error::X509Result;
 use x509_parser::parse_x509_certificate;
 use x509_parser::time::ASN1Time;

@@ -1,3 +1,8 @@
 pub mod Among
 pub mod Names
 pub mod Viewed
+pub mod Findings
+pub mod Kept
+pub mod Logs
+pub mod Steps
+pub mod Walking

@@ -5,10 +5,10 @@ use Rattle.std.specs.List.{flat_map}
 use Rattle.std.proofs.lemmas.List.{map-append}
 use Rattle.std.proofs.lemmas.List.Concat.{flat_map-append}
 use Rattle.std.proofs.lemmas.List.Folds.{flat_map-map}
-use Rattle.x509_fields.specs.declared.name.AttributeTypeAndValue.{AttributeTypeAndValue}
-use Rattle.x509_fields.specs.declared.name.RelativeDistinguishedName.{RelativeDistinguishedName}
-use Rattle.x509_fields.specs.Names.{attribute_of, relative_name_of, attributes_in}
-use Rattle.x509_loggers.specs.Message.{Message}
+use Rattle.x509_names.specs.declared.name.AttributeTypeAndValue.{AttributeTypeAndValue}
+use Rattle.x509_names.specs.declared.name.RelativeDistinguishedName.{RelativeDistinguishedName}
+use Rattle.x509_names.specs.Names.{attribute_of, relative_name_of, attributes_in}
+use Rattle.x509_validators.specs.Message.{Message}
 use Rattle.x509_validators.specs.Names.{attribute_warnings}
 
 abbrev pub warnings_at : AttributeTypeAndValue → List Message

@@ -4,7 +4,7 @@ use Rattle.std.specs.List.{flat_map}
 use Rattle.x509_general_names.specs.GeneralName.{GeneralNameValue, RFC822Name, DNSName}
 use Rattle.x509_extensions.specs.Extension.{Extension}
 use Rattle.x509_extensions.specs.Parsed.{Parsed, SubjectAlternativeName}
-use Rattle.x509_loggers.specs.Message.{Message, warning_if}
+use Rattle.x509_validators.specs.Message.{Message, warning_if}
 use Rattle.x509_validators.specs.Charset.{are_ascii}
 
 -- the text is to be an IA5String

@@ -5,9 +5,9 @@ use Rattle.std.specs.List.{list_any}
 use Rattle.std.specs.Str.{bytes_eq}
 use Rattle.x509_der.specs.declared.oid.Oid.{Oid}
 use Rattle.x509_der.specs.Oid.{oid_bytes, oid_text}
-use Rattle.x509_loggers.specs.Findings.{findings, all_sound}
-use Rattle.x509_loggers.specs.Message.{Message, error_if}
-use Rattle.x509_usages.specs.ExtendedKeyUsage.{oid_cmp}
+use Rattle.x509_validators.specs.Findings.{findings, all_sound}
+use Rattle.x509_validators.specs.Message.{Message, error_if}
+use Rattle.x509_values.specs.ExtendedKeyUsage.{oid_cmp}
 
 -- whether the identifier is one of these
 unfoldable pub is_among : List (List ℕ) → List ℕ → Bool

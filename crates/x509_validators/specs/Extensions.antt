@@ -3,11 +3,11 @@ use Rattle.std.specs.Prelude.{ℕ, Bool, true, not, ◌&&◌, ◌==◌, List, []
 use Rattle.std.specs.Bool.{beq}
 use Rattle.std.specs.List.{flat_map, list_all}
 use Rattle.std.specs.Option.{is_some}
-use Rattle.x509_authorities.specs.AuthorityKeyIdentifier.{AuthorityKeyIdentifierValue}
-use Rattle.x509_usages.specs.Policies.{PolicyValue}
+use Rattle.x509_general_names.specs.AuthorityKeyIdentifier.{AuthorityKeyIdentifierValue}
+use Rattle.x509_values.specs.Policies.{PolicyValue}
 use Rattle.x509_extensions.specs.Extension.{Extension}
 use Rattle.x509_extensions.specs.Parsed.{Parsed, AuthorityKeyIdentifier, CertificatePolicies, KeyUsage, SubjectAlternativeName}
-use Rattle.x509_loggers.specs.Message.{Message, warning_if, error_if}
+use Rattle.x509_validators.specs.Message.{Message, warning_if, error_if}
 use Rattle.x509_validators.specs.AlternativeNames.{names_warnings}
 use Rattle.x509_validators.specs.Duplicates.{repeat_errors, all_distinct}
 

@@ -9,3 +9,10 @@ pub mod Serial
 pub mod SignedPart
 pub mod Times
 pub mod Versions
+pub mod CallbackLogger
+pub mod Findings
+pub mod Message
+pub mod StderrLogger
+pub mod Steps
+pub mod VecLogger
+pub mod Visits

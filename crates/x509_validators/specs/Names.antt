@@ -3,8 +3,8 @@ use Rattle.std.specs.Prelude.{ℕ, Bool, not, ◌&&◌, ◌||◌, ◌==◌, List
 use Rattle.std.specs.List.{flat_map}
 use Rattle.x509_der.specs.Oid.{oid_text}
 use Rattle.x509_der.specs.Reading.{Element}
-use Rattle.x509_fields.specs.Names.{Attribute, Name}
-use Rattle.x509_loggers.specs.Message.{Message, warning_if}
+use Rattle.x509_names.specs.Names.{Attribute, Name}
+use Rattle.x509_validators.specs.Message.{Message, warning_if}
 use Rattle.x509_validators.specs.Charset.{are_ascii}
 
 -- PrintableString and IA5String (X.680, 8.4)

@@ -3,7 +3,7 @@ use Rattle.std.specs.Prelude.{ℕ, Bool, true, false, List, [], ◌∷◌, ◌++
 use Rattle.x509_fields.specs.declared.error.X509Error.{X509Error}
 use Rattle.x509_keys.specs.PublicKey.{Key, RSA, Unknown}
 use Rattle.x509_keys.specs.RsaPublicKey.{RsaKey}
-use Rattle.x509_loggers.specs.Message.{Message, warning, error, warning_if}
+use Rattle.x509_validators.specs.Message.{Message, warning, error, warning_if}
 
 -- the octets of an INTEGER begin with a top bit that is set (X.690, 8.3.3)
 unfoldable pub is_negative : List ℕ → Bool

@@ -7,7 +7,7 @@ use Rattle.x509_der.specs.Oid.{oid_text}
 use Rattle.x509_der.specs.Words.{refusal_word, ber_word}
 use Rattle.x509_extensions.specs.Extension.{Extension}
 use Rattle.x509_extensions.specs.Parsed.{Parsed, is_unsupported, error_in}
-use Rattle.x509_loggers.specs.Message.{Message, error, warning_if}
+use Rattle.x509_validators.specs.Message.{Message, error, warning_if}
 
 -- by the identifier and what the value says: no reader is known
 unfoldable pub unsupported_warnings : List ℕ → Parsed → List Message

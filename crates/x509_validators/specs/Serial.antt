@@ -1,6 +1,6 @@
 -- What is wrong with the octets of a serial (RFC 5280, 4.1.2.2).
 use Rattle.std.specs.Prelude.{ℕ, Bool, false, not, ◌&&◌, ◌==◌, List, ◌∷◌, ◌++◌, codes, length, nat_lt}
-use Rattle.x509_loggers.specs.Message.{Message, warning_if, error_if}
+use Rattle.x509_validators.specs.Message.{Message, warning_if, error_if}
 use Rattle.x509_validators.specs.PublicKey.{is_negative}
 
 abbrev pub is_there : List ℕ → Bool

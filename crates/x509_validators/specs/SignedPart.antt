@@ -3,7 +3,7 @@ use Rattle.std.specs.Prelude.{Bool, ◌&&◌, List, ◌++◌, codes}
 use Rattle.std.specs.List.{flat_map, list_all}
 use Rattle.x509_keys.specs.PublicKey.{key_in}
 use Rattle.x509_certs.specs.TbsCertificate.{Tbs}
-use Rattle.x509_loggers.specs.Message.{Message}
+use Rattle.x509_validators.specs.Message.{Message}
 use Rattle.x509_validators.specs.AlternativeNames.{names_in}
 use Rattle.x509_validators.specs.Names.{name_warnings}
 use Rattle.x509_validators.specs.PublicKey.{key_messages, is_key}

@@ -2,7 +2,7 @@
 use Rattle.std.specs.Prelude.{ℕ, Bool, not, ◌&&◌, List, ◌++◌, codes, pos, int_lt}
 use Rattle.x509_fields.specs.Times.{Time}
 use Rattle.x509_certs.specs.Validity.{Period}
-use Rattle.x509_loggers.specs.Message.{Message, warning_if}
+use Rattle.x509_validators.specs.Message.{Message, warning_if}
 
 abbrev pub is_past_utc : Time → Bool
 is_past_utc t = int_lt (pos 2049) t.moment.year

@@ -3,7 +3,7 @@ use Rattle.std.specs.Prelude.{ℕ, Bool, not, ◌&&◌, ◌||◌, ◌==◌, List
 use Rattle.std.specs.Option.{is_some}
 use Rattle.x509_der.specs.Primitives.{Bits}
 use Rattle.x509_extensions.specs.Extension.{Extension}
-use Rattle.x509_loggers.specs.Message.{Message, warning_if, error_if}
+use Rattle.x509_validators.specs.Message.{Message, warning_if, error_if}
 
 abbrev pub is_version : ℕ → Bool
 is_version version = nat_lt version 3

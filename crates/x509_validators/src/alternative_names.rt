@@ -5,22 +5,22 @@ ghost use Rattle.std.specs.List.{flat_map};
 ghost use Rattle.x509_extensions.specs.Extension.{extension_of};
 ghost use Rattle.x509_extensions.specs.Parsed.{parsed_of};
 ghost use Rattle.x509_general_names.specs.GeneralName.{general_name_of};
-ghost use Rattle.x509_loggers.specs.Message.{Logs};
+ghost use Rattle.x509_validators.specs.Message.{Logs};
 ghost use Rattle.x509_validators.specs.AlternativeNames.{text_warnings, general_name_warnings, names_warnings, alternative_name_warnings, names_in};
 
 use crate::charset::are_ascii;
+use crate::logger::{Logger, log_warning_if};
 use std::alloc::Global;
 use x509_extensions::{ParsedExtension, X509Extension};
 use x509_fields::X509Error;
 use x509_general_names::GeneralName;
-use x509_loggers::{Logger, log_warning_if};
 
 /// Logs what is wrong with the value, where it is other names of a subject (RFC 5280, section 4.2.1.6).
 ///
 /// # Errors
 ///
 /// `OutOfMemory` where there is none for a text, and the logger's own errors.
-#[tactic(auto, using(x509_loggers::proofs::Logs::logging), unfolding(crate::specs::AlternativeNames::alternative_name_warnings))]
+#[tactic(auto, using(crate::proofs::Logs::logging), unfolding(crate::specs::AlternativeNames::alternative_name_warnings))]
 fn check_alternative_names<L: Logger>(
     alloc: Global,
     value: &ParsedExtension<'_>,
@@ -59,7 +59,7 @@ pub(crate) fn check_names<L: Logger>(
     Ok(())
 }
 
-#[tactic(auto, using(x509_loggers::proofs::Logs::logging), unfolding(crate::specs::AlternativeNames::general_name_warnings))]
+#[tactic(auto, using(crate::proofs::Logs::logging), unfolding(crate::specs::AlternativeNames::general_name_warnings))]
 fn check_name<L: Logger>(
     alloc: Global,
     name: &GeneralName<'_>,

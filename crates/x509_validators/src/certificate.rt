@@ -1,10 +1,11 @@
 //! Certificates by their extensions.
 
 use crate::extensions::check_extensions;
+use crate::logger::Logger;
+use crate::validator::Validator;
 use std::alloc::Global;
 use x509_certs::X509Certificate;
 use x509_fields::X509Error;
-use x509_loggers::{Logger, Validator};
 
 /// Tells of a certificate's extensions what [`X509ExtensionsValidator`](crate::X509ExtensionsValidator) does.
 #[derive(Debug, Drop)]

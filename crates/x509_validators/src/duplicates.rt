@@ -2,14 +2,14 @@
 
 ghost use Rattle.std.specs.Prelude.{◌≡◌, ℕ, List, [], ◌∷◌, ◌++◌, OnOk, map};
 ghost use Rattle.x509_der.specs.Oid.{oid_bytes};
-ghost use Rattle.x509_loggers.specs.Message.{Logs};
+ghost use Rattle.x509_validators.specs.Message.{Logs};
 ghost use Rattle.x509_validators.specs.Duplicates.{IsSetOf, is_new, repeat_error, repeat_errors, all_distinct};
 
+use crate::logger::{Logger, log_error_if};
 use std::alloc::Global;
 use std::collections::BTreeSet;
 use x509_der::Oid;
 use x509_fields::X509Error;
-use x509_loggers::{Logger, log_error_if};
 
 /// What has an identifier.
 pub(crate) trait Identified {
@@ -28,7 +28,7 @@ pub(crate) trait Identified {
 /// # Errors
 ///
 /// `OutOfMemory` where there is none for a text or for the set of identifiers, and the logger's own errors.
-#[tactic(auto, using(x509_loggers::proofs::Logs::logging), unfolding(crate::specs::Duplicates::is_among))]
+#[tactic(auto, using(crate::proofs::Logs::logging), unfolding(crate::specs::Duplicates::is_among))]
 pub(crate) fn check_duplicates<T: Identified, L: Logger>(
     alloc: Global,
     label: &str,
@@ -52,7 +52,7 @@ pub(crate) fn check_duplicates<T: Identified, L: Logger>(
 }
 
 // Logs an error where the identifier was seen before, and adds it to those that were.
-#[tactic(auto, using(x509_loggers::proofs::Logs::logging), unfolding(crate::specs::Duplicates::repeat_error, crate::specs::Duplicates::is_new))]
+#[tactic(auto, using(crate::proofs::Logs::logging), unfolding(crate::specs::Duplicates::repeat_error, crate::specs::Duplicates::is_new))]
 fn check_new<'a, L: Logger>(
     alloc: Global,
     label: &str,

@@ -2,25 +2,26 @@
 
 ghost use Rattle.std.specs.Prelude.{◌≡◌, map};
 ghost use Rattle.std.specs.List.{flat_map, list_all};
-ghost use Rattle.x509_authorities.specs.AuthorityKeyIdentifier.{authority_key_identifier_of};
+ghost use Rattle.x509_general_names.specs.AuthorityKeyIdentifier.{authority_key_identifier_of};
 ghost use Rattle.x509_der.specs.Oid.{oid_bytes};
 ghost use Rattle.x509_extensions.specs.Extension.{extension_of};
 ghost use Rattle.x509_extensions.specs.Parsed.{parsed_of};
-ghost use Rattle.x509_loggers.specs.Message.{Logs};
-ghost use Rattle.x509_usages.specs.KeyUsage.{key_usage_of};
-ghost use Rattle.x509_usages.specs.Policies.{policy_of};
+ghost use Rattle.x509_validators.specs.Message.{Logs};
+ghost use Rattle.x509_values.specs.KeyUsage.{key_usage_of};
+ghost use Rattle.x509_values.specs.Policies.{policy_of};
 ghost use Rattle.x509_validators.specs.Duplicates.{all_distinct};
 ghost use Rattle.x509_validators.specs.Extensions.{critical_errors, has_one, pair_warnings, key_identifier_messages, policy_ids, policy_errors, usage_errors, value_messages, is_sound_value, extension_ids, extension_messages, is_sound_extension, extension_errors, extensions_messages, are_sound};
 
 use crate::alternative_names::check_names;
 use crate::duplicates::{Identified, check_duplicates};
+use crate::logger::{Logger, log_error_if, log_warning_if};
+use crate::validator::Validator;
 use std::alloc::Global;
-use x509_authorities::AuthorityKeyIdentifier;
 use x509_der::Oid;
 use x509_extensions::{ParsedExtension, X509Extension};
 use x509_fields::X509Error;
-use x509_loggers::{Logger, Validator, log_error_if, log_warning_if};
-use x509_usages::{KeyUsage, PolicyInformation};
+use x509_general_names::AuthorityKeyIdentifier;
+use x509_values::{KeyUsage, PolicyInformation};
 
 /// Tells of extensions that stand twice, and then of what is wrong with the value of each (RFC 5280, section 4.2):
 ///
@@ -116,7 +117,7 @@ fn check_extension<L: Logger>(
     check_value(alloc, extension.critical, value, logger)
 }
 
-#[tactic(auto, using(x509_loggers::proofs::Logs::logging), unfolding(crate::specs::Extensions::value_messages, crate::specs::Extensions::is_sound_value))]
+#[tactic(auto, using(crate::proofs::Logs::logging), unfolding(crate::specs::Extensions::value_messages, crate::specs::Extensions::is_sound_value))]
 fn check_value<L: Logger>(
     alloc: Global,
     critical: bool,
@@ -171,7 +172,7 @@ fn check_usage<L: Logger>(alloc: Global, usage: &KeyUsage, logger: &mut L) -> Re
     log_error_if(alloc, logger, found, "KeyUsage: all flags are set to 0")
 }
 
-#[tactic(auto, using(x509_loggers::proofs::Logs::logging), unfolding(crate::specs::Extensions::key_identifier_messages))]
+#[tactic(auto, using(crate::proofs::Logs::logging), unfolding(crate::specs::Extensions::key_identifier_messages))]
 fn check_key_identifier<L: Logger>(
     alloc: Global,
     critical: bool,

@@ -2,15 +2,17 @@
 
 ghost use Rattle.std.specs.Prelude.{◌≡◌};
 ghost use Rattle.x509_der.specs.Reading.{element_of};
-ghost use Rattle.x509_fields.specs.Names.{attribute_of};
-ghost use Rattle.x509_loggers.specs.Message.{Logs};
+ghost use Rattle.x509_names.specs.Names.{attribute_of};
+ghost use Rattle.x509_validators.specs.Message.{Logs};
 ghost use Rattle.x509_validators.specs.Names.{attribute_warnings, is_out_of_charset};
 
 use crate::charset::are_ascii;
+use crate::logger::{Logger, log_warning_if};
+use crate::validator::Validator;
 use std::alloc::Global;
 use x509_der::{Any, Tag};
-use x509_fields::{AttributeTypeAndValue, X509Error, X509Name};
-use x509_loggers::{Logger, Validator, log_warning_if};
+use x509_fields::X509Error;
+use x509_names::{AttributeTypeAndValue, X509Name};
 
 /// Warns of each attribute of a name that is a PrintableString or an IA5String, by the number of its tag, with an octet
 /// that isn't of ASCII. Every name is sound.
@@ -19,7 +21,7 @@ pub struct X509NameStructureValidator;
 
 impl<'a> Validator<'a> for X509NameStructureValidator {
     ghost use Rattle.std.specs.Prelude.{true};
-    ghost use Rattle.x509_fields.specs.Names.{name_of};
+    ghost use Rattle.x509_names.specs.Names.{name_of};
     ghost use Rattle.x509_validators.specs.Names.{name_warnings};
 
     type Item = X509Name<'a>;
@@ -28,7 +30,7 @@ impl<'a> Validator<'a> for X509NameStructureValidator {
 
     ghost answer = { λ _ _. true };
 
-    #[tactic(auto, using(x509_loggers::proofs::Logs::logging))]
+    #[tactic(auto, using(crate::proofs::Logs::logging))]
     fn validate<L: Logger>(
         &self,
         alloc: Global,

@@ -3,13 +3,14 @@
 ghost use Rattle.std.specs.Prelude.{◌≡◌};
 ghost use Rattle.x509_keys.specs.PublicKey.{public_key_of};
 ghost use Rattle.x509_keys.specs.RsaPublicKey.{rsa_key_of};
-ghost use Rattle.x509_loggers.specs.Message.{Logs};
+ghost use Rattle.x509_validators.specs.Message.{Logs};
 ghost use Rattle.x509_validators.specs.PublicKey.{is_negative, modulus_warnings, exponent_warnings, rsa_warnings, known_messages, unknown_key, invalid_key};
 
+use crate::logger::{Logger, log_error_if, log_warning_if};
+use crate::validator::Validator;
 use std::alloc::Global;
 use x509_fields::X509Error;
 use x509_keys::{PublicKey, RSAPublicKey, SubjectPublicKeyInfo};
-use x509_loggers::{Logger, Validator, log_error_if, log_warning_if};
 
 /// Warns of numbers of an RSA key that are negative and of keys of an unknown algorithm. A key info is sound where its
 /// key bits hold a key ([`SubjectPublicKeyInfo::parsed`]).
@@ -27,7 +28,7 @@ impl<'a> Validator<'a> for X509PublicKeyValidator {
 
     ghost answer = { λ _ info. is_key (key_in (key_info_of info)) };
 
-    #[tactic(auto, using(x509_loggers::proofs::Logs::logging), unfolding(crate::specs::PublicKey::key_messages, crate::specs::PublicKey::is_key))]
+    #[tactic(auto, using(crate::proofs::Logs::logging), unfolding(crate::specs::PublicKey::key_messages, crate::specs::PublicKey::is_key))]
     fn validate<L: Logger>(
         &self,
         alloc: Global,
@@ -47,7 +48,7 @@ impl<'a> Validator<'a> for X509PublicKeyValidator {
     }
 }
 
-#[tactic(auto, unfolding(crate::specs::PublicKey::unknown_key, x509_loggers::specs::Message::warning_if))]
+#[tactic(auto, unfolding(crate::specs::PublicKey::unknown_key, crate::specs::Message::warning_if))]
 fn report_unknown<L: Logger>(alloc: Global, logger: &mut L) -> Result<(), X509Error>
     requires { L.can_log logger.old }
     ensures can { L.can_log logger.new }
@@ -56,7 +57,7 @@ fn report_unknown<L: Logger>(alloc: Global, logger: &mut L) -> Result<(), X509Er
     log_warning_if(alloc, logger, true, "Unknown public key type")
 }
 
-#[tactic(auto, unfolding(crate::specs::PublicKey::invalid_key, x509_loggers::specs::Message::error_if))]
+#[tactic(auto, unfolding(crate::specs::PublicKey::invalid_key, crate::specs::Message::error_if))]
 fn report_invalid<L: Logger>(alloc: Global, logger: &mut L) -> Result<(), X509Error>
     requires { L.can_log logger.old }
     ensures can { L.can_log logger.new }
@@ -65,7 +66,7 @@ fn report_invalid<L: Logger>(alloc: Global, logger: &mut L) -> Result<(), X509Er
     log_error_if(alloc, logger, true, "Invalid public key")
 }
 
-#[tactic(auto, using(x509_loggers::proofs::Logs::logging), unfolding(crate::specs::PublicKey::known_messages))]
+#[tactic(auto, using(crate::proofs::Logs::logging), unfolding(crate::specs::PublicKey::known_messages))]
 fn check_key<L: Logger>(alloc: Global, key: &PublicKey<'_>, logger: &mut L) -> Result<(), X509Error>
     requires { L.can_log logger.old }
     ensures can { L.can_log logger.new }
@@ -78,7 +79,7 @@ fn check_key<L: Logger>(alloc: Global, key: &PublicKey<'_>, logger: &mut L) -> R
     }
 }
 
-#[tactic(auto, using(x509_loggers::proofs::Logs::logging), unfolding(crate::specs::PublicKey::rsa_warnings))]
+#[tactic(auto, using(crate::proofs::Logs::logging), unfolding(crate::specs::PublicKey::rsa_warnings))]
 fn check_rsa_key<L: Logger>(
     alloc: Global,
     key: &RSAPublicKey<'_>,

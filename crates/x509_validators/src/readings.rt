@@ -6,14 +6,14 @@ ghost use Rattle.std.specs.Option.{is_some};
 ghost use Rattle.x509_der.specs.Oid.{oid_bytes};
 ghost use Rattle.x509_extensions.specs.Extension.{extension_of};
 ghost use Rattle.x509_extensions.specs.Parsed.{parsed_of, error_in};
-ghost use Rattle.x509_loggers.specs.Message.{Logs};
+ghost use Rattle.x509_validators.specs.Message.{Logs};
 ghost use Rattle.x509_validators.specs.Readings.{unsupported_warnings, refusal_error, refusal_errors, reading_messages, is_readable};
 
+use crate::logger::{Logger, log_error_if, log_warning_if};
 use std::alloc::Global;
 use x509_der::{BerError, Err, Oid};
 use x509_extensions::{ParsedExtension, X509Extension};
 use x509_fields::X509Error;
-use x509_loggers::{Logger, log_error_if, log_warning_if};
 
 /// Warns of extensions that no reader is known for and logs those whose value can't be read, and answers whether there
 /// are none of these.
@@ -38,7 +38,7 @@ pub(crate) fn check_readings<L: Logger>(
     Ok(readable)
 }
 
-#[tactic(auto, using(x509_loggers::proofs::Logs::logging), unfolding(crate::specs::Readings::reading_messages))]
+#[tactic(auto, using(crate::proofs::Logs::logging), unfolding(crate::specs::Readings::reading_messages))]
 fn check_reading<L: Logger>(
     alloc: Global,
     extension: &X509Extension<'_>,
@@ -74,7 +74,7 @@ fn check_known<L: Logger>(
     )
 }
 
-#[tactic(auto, using(x509_loggers::proofs::Logs::logging), unfolding(crate::specs::Readings::refusal_errors))]
+#[tactic(auto, using(crate::proofs::Logs::logging), unfolding(crate::specs::Readings::refusal_errors))]
 fn check_refusal<L: Logger>(
     alloc: Global,
     oid: &Oid<'_>,
@@ -94,7 +94,7 @@ fn check_refusal<L: Logger>(
     }
 }
 
-#[tactic(auto, unfolding(crate::specs::Readings::refusal_error, x509_loggers::specs::Message::error_if))]
+#[tactic(auto, unfolding(crate::specs::Readings::refusal_error, crate::specs::Message::error_if))]
 fn report_refusal<L: Logger>(
     alloc: Global,
     oid: &Oid<'_>,

@@ -1,20 +1,20 @@
 //! Serials.
 
 ghost use Rattle.std.specs.Prelude.{◌≡◌};
-ghost use Rattle.x509_loggers.specs.Message.{Logs};
+ghost use Rattle.x509_validators.specs.Message.{Logs};
 ghost use Rattle.x509_validators.specs.Serial.{is_there, absence_errors, sign_warnings, has_leading_zeros, zeros_warnings, serial_messages};
 
+use crate::logger::{Logger, log_error_if, log_warning_if};
 use crate::public_key::is_negative;
 use std::alloc::Global;
 use x509_fields::X509Error;
-use x509_loggers::{Logger, log_error_if, log_warning_if};
 
 /// Logs what is wrong with the contents octets of a serial (RFC 5280, section 4.1.2.2), and answers whether there is one.
 ///
 /// # Errors
 ///
 /// `OutOfMemory` where there is none for a text, and the logger's own errors.
-#[tactic(auto, using(x509_loggers::proofs::Logs::logging), unfolding(crate::specs::Serial::serial_messages))]
+#[tactic(auto, using(crate::proofs::Logs::logging), unfolding(crate::specs::Serial::serial_messages))]
 pub(crate) fn check_serial<L: Logger>(
     alloc: Global,
     serial: &[u8],

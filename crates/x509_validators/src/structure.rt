@@ -2,21 +2,22 @@
 
 ghost use Rattle.std.specs.Prelude.{◌≡◌};
 ghost use Rattle.x509_certs.specs.TbsCertificate.{tbs_of};
-ghost use Rattle.x509_loggers.specs.Message.{Logs};
+ghost use Rattle.x509_validators.specs.Message.{Logs};
 ghost use Rattle.x509_validators.specs.Serial.{serial_messages, is_there};
 ghost use Rattle.x509_validators.specs.SignedPart.{number_messages, are_numbers_sound, party_messages, is_key_sound, field_messages, are_fields_sound, uids_warnings, extension_part_messages, are_extensions_sound, signed_part_messages, is_signed_part_sound};
 
 use crate::alternative_names::check_names_in;
+use crate::logger::Logger;
 use crate::name::X509NameStructureValidator;
 use crate::public_key::X509PublicKeyValidator;
 use crate::readings::check_readings;
 use crate::serial::check_serial;
 use crate::times::check_validity;
+use crate::validator::Validator;
 use crate::versions::{check_presence, check_unique_id, check_version};
 use std::alloc::Global;
 use x509_certs::{TbsCertificate, X509Certificate};
 use x509_fields::X509Error;
-use x509_loggers::{Logger, Validator};
 
 /// Tells what is wrong with the structure of the part of a certificate that is signed (RFC 5280, section 4.1.2):
 ///
@@ -73,7 +74,7 @@ impl<'a> Validator<'a> for X509StructureValidator {
     }
 }
 
-#[tactic(auto, using(x509_loggers::proofs::Logs::logging), unfolding(crate::specs::SignedPart::signed_part_messages, crate::specs::SignedPart::is_signed_part_sound))]
+#[tactic(auto, using(crate::proofs::Logs::logging), unfolding(crate::specs::SignedPart::signed_part_messages, crate::specs::SignedPart::is_signed_part_sound))]
 fn check_signed_part<L: Logger>(
     alloc: Global,
     tbs: &TbsCertificate<'_>,
@@ -90,7 +91,7 @@ fn check_signed_part<L: Logger>(
 }
 
 // The fields that every certificate has.
-#[tactic(auto, using(x509_loggers::proofs::Logs::logging), unfolding(crate::specs::SignedPart::field_messages))]
+#[tactic(auto, using(crate::proofs::Logs::logging), unfolding(crate::specs::SignedPart::field_messages))]
 fn check_fields<L: Logger>(
     alloc: Global,
     tbs: &TbsCertificate<'_>,
@@ -107,7 +108,7 @@ fn check_fields<L: Logger>(
 }
 
 // Version and serial.
-#[tactic(auto, using(x509_loggers::proofs::Logs::logging), unfolding(crate::specs::SignedPart::number_messages))]
+#[tactic(auto, using(crate::proofs::Logs::logging), unfolding(crate::specs::SignedPart::number_messages))]
 fn check_numbers<L: Logger>(
     alloc: Global,
     tbs: &TbsCertificate<'_>,
@@ -135,7 +136,7 @@ fn check_raw_serial<L: Logger>(
 }
 
 // Subject, issuer and key.
-#[tactic(auto, using(x509_loggers::proofs::Logs::logging), unfolding(crate::specs::SignedPart::party_messages))]
+#[tactic(auto, using(crate::proofs::Logs::logging), unfolding(crate::specs::SignedPart::party_messages))]
 fn check_parties<L: Logger>(
     alloc: Global,
     tbs: &TbsCertificate<'_>,
@@ -151,7 +152,7 @@ fn check_parties<L: Logger>(
     Ok(key)
 }
 
-#[tactic(auto, using(x509_loggers::proofs::Logs::logging), unfolding(crate::specs::SignedPart::uids_warnings))]
+#[tactic(auto, using(crate::proofs::Logs::logging), unfolding(crate::specs::SignedPart::uids_warnings))]
 fn check_unique_ids<L: Logger>(
     alloc: Global,
     tbs: &TbsCertificate<'_>,
@@ -178,7 +179,7 @@ fn check_unique_ids<L: Logger>(
     Ok(())
 }
 
-#[tactic(auto, using(x509_loggers::proofs::Logs::logging), unfolding(crate::specs::SignedPart::extension_part_messages))]
+#[tactic(auto, using(crate::proofs::Logs::logging), unfolding(crate::specs::SignedPart::extension_part_messages))]
 fn check_extension_part<L: Logger>(
     alloc: Global,
     tbs: &TbsCertificate<'_>,

@@ -3,20 +3,20 @@
 ghost use Rattle.std.specs.Prelude.{◌≡◌};
 ghost use Rattle.x509_certs.specs.Validity.{period_of};
 ghost use Rattle.x509_fields.specs.Times.{time_of};
-ghost use Rattle.x509_loggers.specs.Message.{Logs};
+ghost use Rattle.x509_validators.specs.Message.{Logs};
 ghost use Rattle.x509_validators.specs.Times.{is_past_utc, wants_utc, wants_generalized, utc_warnings, generalized_warnings, time_warnings, validity_warnings};
 
+use crate::logger::{Logger, log_warning_if};
 use std::alloc::Global;
 use x509_certs::Validity;
 use x509_fields::{ASN1Time, X509Error};
-use x509_loggers::{Logger, log_warning_if};
 
 /// Warns of times whose form isn't that of their year (RFC 5280, section 4.1.2.5).
 ///
 /// # Errors
 ///
 /// `OutOfMemory` where there is none for a text, and the logger's own errors.
-#[tactic(auto, using(x509_loggers::proofs::Logs::logging), unfolding(crate::specs::Times::validity_warnings))]
+#[tactic(auto, using(crate::proofs::Logs::logging), unfolding(crate::specs::Times::validity_warnings))]
 pub(crate) fn check_validity<L: Logger>(
     alloc: Global,
     validity: &Validity,
@@ -31,7 +31,7 @@ pub(crate) fn check_validity<L: Logger>(
     Ok(())
 }
 
-#[tactic(auto, using(x509_loggers::proofs::Logs::logging), unfolding(crate::specs::Times::time_warnings))]
+#[tactic(auto, using(crate::proofs::Logs::logging), unfolding(crate::specs::Times::time_warnings))]
 fn check_time<L: Logger>(
     alloc: Global,
     field: &str,

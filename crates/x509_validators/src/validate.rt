@@ -2,20 +2,20 @@
 
 ghost use Rattle.std.specs.Prelude.{◌≡◌, IfOk, map};
 ghost use Rattle.std.specs.String.{string_bytes};
-ghost use Rattle.x509_loggers.specs.CallbackLogger.{calls};
-ghost use Rattle.x509_loggers.specs.Message.{Logs, warnings_of, errors_of};
+ghost use Rattle.x509_validators.specs.CallbackLogger.{calls};
+ghost use Rattle.x509_validators.specs.Message.{Logs, warnings_of, errors_of};
 
+use crate::one_call::{validate_by, validate_to_vec};
 use crate::structure::{TbsCertificateStructureValidator, X509StructureValidator};
 use std::alloc::{AllocError, Global};
 use x509_certs::{TbsCertificate, X509Certificate};
 use x509_fields::X509Error;
-use x509_loggers::{validate_by, validate_to_vec};
 
 /// Looks for faults of the value itself.
 pub trait Validate {
     ghost use Rattle.std.specs.Prelude.{Bool, List};
-    ghost use Rattle.x509_loggers.specs.Message.{Message};
-    ghost use Rattle.x509_loggers.specs.declared.callback_logger.CallbackLogger.{CallbackLogger};
+    ghost use Rattle.x509_validators.specs.Message.{Message};
+    ghost use Rattle.x509_validators.specs.declared.callback_logger.CallbackLogger.{CallbackLogger};
 
     // what is logged, in order, and what is answered
     ghost messages: { Self → List Message };

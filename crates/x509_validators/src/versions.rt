@@ -4,21 +4,21 @@ ghost use Rattle.std.specs.Prelude.{◌≡◌, map};
 ghost use Rattle.x509_certs.specs.UniqueIdentifier.{bits_of_uid};
 ghost use Rattle.x509_der.specs.Promises.{option_view};
 ghost use Rattle.x509_extensions.specs.Extension.{extension_of};
-ghost use Rattle.x509_loggers.specs.Message.{Logs};
+ghost use Rattle.x509_validators.specs.Message.{Logs};
 ghost use Rattle.x509_validators.specs.Versions.{is_version, version_errors, is_too_early, uid_warnings, may_have, presence_errors};
 
+use crate::logger::{Logger, log_error_if, log_warning_if};
 use std::alloc::Global;
 use x509_certs::UniqueIdentifier;
 use x509_extensions::X509Extension;
 use x509_fields::{X509Error, X509Version};
-use x509_loggers::{Logger, log_error_if, log_warning_if};
 
 /// Logs a version that there is not (RFC 5280, section 4.1.2.1), and answers whether there is.
 ///
 /// # Errors
 ///
 /// `OutOfMemory` where there is none for a text, and the logger's own errors.
-#[tactic(auto, using(x509_loggers::proofs::Logs::logging), unfolding(crate::specs::Versions::version_errors))]
+#[tactic(auto, using(crate::proofs::Logs::logging), unfolding(crate::specs::Versions::version_errors))]
 pub(crate) fn check_version<L: Logger>(
     alloc: Global,
     version: X509Version,
@@ -65,7 +65,7 @@ pub(crate) fn check_unique_id<L: Logger>(
 /// # Errors
 ///
 /// `OutOfMemory` where there is none for a text, and the logger's own errors.
-#[tactic(auto, using(x509_loggers::proofs::Logs::logging))]
+#[tactic(auto, using(crate::proofs::Logs::logging))]
 pub(crate) fn check_presence<L: Logger>(
     alloc: Global,
     version: X509Version,

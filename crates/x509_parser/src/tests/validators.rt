@@ -6,7 +6,7 @@ use crate::prelude::*;
 use crate::visitor::{CertificateRevocationListVisitor, X509CertificateVisitor};
 use std::alloc::{AllocError, Global};
 use std::test::Fail;
-use x509_loggers::validate_to_vec;
+use x509_validators::validate_to_vec;
 
 const UNVERSIONED: &[u8; 101] =
     b"\x30\x63\x30\x59\x02\x01\x01\x30\x03\x06\x01\x2A\x30\x00\x30\x1E\x17\x0D700101000000Z\x17\x0D491231235959Z\x30\x00\x30\x08\x30\x03\x06\x01\x2A\x03\x01\x00\xA3\x21\x30\x1F\x30\x1D\x06\x03\x55\x1D\x0E\x04\x16\x04\x14\xA3\x05\x2F\x18\x60\x50\xC2\x89\x0A\xDD\x2B\x21\x4F\xFF\x8E\x4E\xA8\x30\x31\x36\x30\x03\x06\x01\x2A\x03\x01\x00";
@@ -113,7 +113,7 @@ struct SmallNumbers;
 
 impl<'a> Validator<'a> for SmallNumbers {
     ghost use Rattle.std.specs.Prelude.{true, codes, nat_lt};
-    ghost use Rattle.x509_loggers.specs.Message.{warning_if};
+    ghost use Rattle.x509_validators.specs.Message.{warning_if};
 
     type Item = u32;
 

@@ -1,31 +1,31 @@
-use Rattle.std.proofs.Common.{refl}
-use Rattle.x509_objects.specs.Objects as objects
+use Rattle.std.proofs.Common.{refl, ap}
+use Rattle.x509_names.specs.Objects as objects
 use Rattle.x509_fields.specs.Fields.{lifted}
 use Rattle.x509_extensions.specs.Kinds.{kind_of}
-use Rattle.x509_extensions.specs.Parsed.{parsed_value, sct_laws, SubjectKeyIdentifier, KeyUsage, SubjectAlternativeName, IssuerAlternativeName, BasicConstraints, CRLNumber, ReasonCode, InvalidityDate, IssuingDistributionPoint, NameConstraints, CRLDistributionPoints, CertificatePolicies, PolicyMappings, AuthorityKeyIdentifier, PolicyConstraints, ExtendedKeyUsage, InhibitAnyPolicy, AuthorityInfoAccess, SubjectInfoAccess, SCT, NSCertType, NsCertComment}
+use Rattle.x509_extensions.specs.Parsed.{parsed_by, parsed_value, sct_laws, SubjectKeyIdentifier, KeyUsage, SubjectAlternativeName, IssuerAlternativeName, BasicConstraints, CRLNumber, ReasonCode, InvalidityDate, IssuingDistributionPoint, NameConstraints, CRLDistributionPoints, CertificatePolicies, PolicyMappings, AuthorityKeyIdentifier, PolicyConstraints, ExtendedKeyUsage, InhibitAnyPolicy, AuthorityInfoAccess, SubjectInfoAccess, SCT, NSCertType, NsCertComment}
 use Rattle.x509_extensions.proofs.Rows.{is_row, is_whole_row}
-use Rattle.x509_authorities.specs.KeyIdentifier.{key_identifier, key_identifier_laws}
-use Rattle.x509_usages.specs.KeyUsage.{key_usage, key_usage_laws}
+use Rattle.x509_general_names.specs.KeyIdentifier.{key_identifier, key_identifier_laws}
+use Rattle.x509_values.specs.KeyUsage.{key_usage, key_usage_laws}
 use Rattle.x509_general_names.specs.AlternativeNames.{general_names}
-use Rattle.x509_usages.specs.BasicConstraints.{basic_constraints, basic_constraints_laws}
-use Rattle.x509_usages.specs.CrlNumber.{crl_number, crl_number_laws}
-use Rattle.x509_usages.specs.ReasonCode.{reason_code, reason_code_laws}
-use Rattle.x509_usages.specs.InvalidityDate.{invalidity_date, invalidity_date_laws}
-use Rattle.x509_authorities.specs.IssuingDistributionPoint.{issuing_distribution_point, issuing_distribution_point_laws}
+use Rattle.x509_values.specs.BasicConstraints.{basic_constraints, basic_constraints_laws}
+use Rattle.x509_values.specs.CrlNumber.{crl_number, crl_number_laws}
+use Rattle.x509_values.specs.ReasonCode.{reason_code, reason_code_laws}
+use Rattle.x509_values.specs.InvalidityDate.{invalidity_date, invalidity_date_laws}
+use Rattle.x509_general_names.specs.IssuingDistributionPoint.{issuing_distribution_point, issuing_distribution_point_laws}
 use Rattle.x509_general_names.specs.NameConstraints.{name_constraints, name_constraints_laws}
-use Rattle.x509_authorities.specs.DistributionPoints.{crl_distribution_points, crl_distribution_points_laws}
-use Rattle.x509_usages.specs.Policies.{policies, policies_laws}
-use Rattle.x509_usages.specs.PolicyMapping.{policy_mappings, policy_mappings_laws}
-use Rattle.x509_authorities.specs.AuthorityKeyIdentifier.{authority_key_identifier, authority_key_identifier_laws}
-use Rattle.x509_usages.specs.PolicyConstraints.{policy_constraints, policy_constraints_laws}
-use Rattle.x509_usages.specs.ExtendedKeyUsage.{extended_key_usage, extended_key_usage_laws}
-use Rattle.x509_usages.specs.InhibitAnyPolicy.{inhibit_any_policy, inhibit_any_policy_laws}
-use Rattle.x509_authorities.specs.InformationAccess.{information_access, information_access_laws}
-use Rattle.x509_timestamps.specs.TimestampList.{timestamps}
-use Rattle.x509_usages.specs.NsCertType.{ns_cert_type, ns_cert_type_laws}
-use Rattle.x509_usages.specs.NsComment.{ns_comment}
+use Rattle.x509_general_names.specs.DistributionPoints.{crl_distribution_points, crl_distribution_points_laws}
+use Rattle.x509_values.specs.Policies.{policies, policies_laws}
+use Rattle.x509_values.specs.PolicyMapping.{policy_mappings, policy_mappings_laws}
+use Rattle.x509_general_names.specs.AuthorityKeyIdentifier.{authority_key_identifier, authority_key_identifier_laws}
+use Rattle.x509_values.specs.PolicyConstraints.{policy_constraints, policy_constraints_laws}
+use Rattle.x509_values.specs.ExtendedKeyUsage.{extended_key_usage, extended_key_usage_laws}
+use Rattle.x509_values.specs.InhibitAnyPolicy.{inhibit_any_policy, inhibit_any_policy_laws}
+use Rattle.x509_general_names.specs.InformationAccess.{information_access, information_access_laws}
+use Rattle.x509_values.specs.TimestampList.{timestamps}
+use Rattle.x509_values.specs.NsCertType.{ns_cert_type, ns_cert_type_laws}
+use Rattle.x509_values.specs.NsComment.{ns_comment}
 use Rattle.x509_general_names.specs.AlternativeNamesLaws.{general_names_laws}
-use Rattle.x509_usages.proofs.Comments.{ns_comment_laws}
+use Rattle.x509_values.proofs.Comments.{ns_comment_laws}
 use Rattle.x509_extensions.proofs.table.value_laws.Goals as goal
 
 pub returns-clause-subject_key_identifier : goal.returns-clause-subject_key_identifier
@@ -115,3 +115,7 @@ returns-clause-ns_cert_type c = is_row objects.ns_cert_type ns_cert_type (λ v. 
 pub returns-clause-ns_comment : goal.returns-clause-ns_comment
 unfolding parsed_value kind_of
 returns-clause-ns_comment c = is_whole_row objects.ns_comment ns_comment (λ v. NsCertComment v) ns_comment_laws.field.agrees (λ value. refl) (λ x y e. cc) (λ x r e. cc)
+
+pub returns-clause-unknown : goal.returns-clause-unknown
+unfolding parsed_value
+returns-clause-unknown c id value none = ap (λ k. parsed_by k id value) none

@@ -1,7 +1,7 @@
 use Rattle.std.proofs.Common.{◌++◌, ◌∷◌, [], codes, ap, ◌∙◌}
 use Rattle.json.specs.Token.{key}
 use Rattle.x509_lists.specs.TbsCertList.{tbs_list_of}
-use Rattle.x509_objects.specs.Objects as objects
+use Rattle.x509_names.specs.Objects as objects
 use Rattle.x509_report_lines.specs.Says.{list_of, written}
 use Rattle.x509_report_objects.specs.Extensions.{extension_report}
 use Rattle.x509_report_objects.specs.Lists.{first_parsed, number_report}

@@ -1,6 +1,6 @@
 use Rattle.std.proofs.Common.{◌≡◌}
 use Rattle.json.specs.Json as json
-use Rattle.x509_parts.specs.BitNames.{names_left}
+use Rattle.x509_fields.specs.BitNames.{names_left}
 use Rattle.x509_report_lines.specs.Says.{each_written}
 use Rattle.x509_report_values.proofs.bit_names.say_names.Given as goal
 

@@ -1,5 +1,5 @@
 use Rattle.std.proofs.Common.{◌≡◌, map}
-use Rattle.x509_fields.specs.Names.{attribute_of, attributes_left, relative_name_of}
+use Rattle.x509_names.specs.Names.{attribute_of, attributes_left, relative_name_of}
 use Rattle.x509_report_lines.specs.Says.{each_written}
 use Rattle.x509_report_values.specs.Names.{attribute_report}
 use Rattle.x509_report_values.proofs.names.say_attributes.Given as goal

@@ -1,5 +1,5 @@
 use Rattle.std.proofs.Common.{◌≡◌, map}
-use Rattle.x509_fields.specs.Names.{relative_name_of, relative_left, name_of}
+use Rattle.x509_names.specs.Names.{relative_name_of, relative_left, name_of}
 use Rattle.x509_report_lines.specs.Says.{each_written}
 use Rattle.x509_report_values.specs.Names.{relative_name_report}
 use Rattle.x509_report_values.proofs.names.say_relative_names.Given as goal

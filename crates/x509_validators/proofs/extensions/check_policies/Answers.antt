@@ -1,4 +1,4 @@
-use Rattle.x509_usages.specs.Policies.{policy_of}
+use Rattle.x509_values.specs.Policies.{policy_of}
 use Rattle.x509_validators.specs.Extensions.{policy_errors}
 use Rattle.x509_validators.proofs.Among.{map-viewed}
 use Rattle.x509_validators.proofs.extensions.check_policies.Goals as goal

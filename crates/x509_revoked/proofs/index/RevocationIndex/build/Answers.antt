@@ -6,8 +6,8 @@ use Rattle.x509_der.specs.Unsigned.{unsigned_number}
 use Rattle.x509_lists.specs.FindRevoked.{serial_numbers}
 use Rattle.x509_lists.specs.RevokedCertificate.{revoked_of}
 use Rattle.x509_lists.specs.declared.revoked_certificate.RevokedCertificate.{RevokedCertificate}
-use Rattle.x509_revoked.specs.Entries.{indexed}
-use Rattle.x509_revoked.proofs.Least.{indexed_from, indexed_more, length_indexed, answers_first}
+use Rattle.x509_revoked.specs.Entries.{indexed, indexed_from}
+use Rattle.x509_revoked.proofs.Least.{indexed_more, length_indexed, answers_first}
 use Rattle.x509_revoked.proofs.Ranked.{ranked_sorted, ties_of, order_of}
 use Rattle.x509_revoked.proofs.index.RevocationIndex.build.Goals as goal
 
@@ -53,5 +53,6 @@ returns c =
     let moved : IsPermutation (indexed_from 0 numbers) (map indexed sorted) = subst (λ xs. IsPermutation xs (map indexed sorted)) all (IsPermutation-map indexed held sorted c.sort_unstable.ensures.permutation) in
     rw (← c.as_slice-revoked.ensures) record {
       count = length_permutation held sorted c.sort_unstable.ensures.permutation ∙ sym (length-map held indexed) ∙ ap length all ∙ length_indexed 0 numbers;
+      entries = moved;
       answers = answers_first (map indexed sorted) numbers moved (ties_of (map indexed sorted) (ranked_sorted sorted c.sort_unstable.ensures.sorted));
     }

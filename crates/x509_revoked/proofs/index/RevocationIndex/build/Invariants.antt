@@ -1,8 +1,7 @@
 use Rattle.std.proofs.Common.{◌≡◌, map, take}
 use Rattle.x509_lists.specs.FindRevoked.{serial_numbers}
 use Rattle.x509_lists.specs.RevokedCertificate.{revoked_of}
-use Rattle.x509_revoked.specs.Entries.{indexed}
-use Rattle.x509_revoked.proofs.Least.{indexed_from}
+use Rattle.x509_revoked.specs.Entries.{indexed, indexed_from}
 use Rattle.x509_revoked.proofs.index.RevocationIndex.build.Given as goal
 
 -- the serials so far, each with its position

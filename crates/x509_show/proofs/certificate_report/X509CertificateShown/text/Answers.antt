@@ -1,8 +1,8 @@
 use Rattle.std.proofs.Common.{◌≡◌, ◌++◌, string_bytes, codes, flat_map, map, length, refl}
 use Rattle.std.specs.Fmt.{decimal}
 use Rattle.x509_der.specs.Oid.{oid_bytes, oid_text}
-use Rattle.x509_fields.specs.Names.{name_of}
-use Rattle.x509_fields.specs.NameTexts.{shown_name}
+use Rattle.x509_names.specs.Names.{name_of}
+use Rattle.x509_names.specs.NameTexts.{shown_name}
 use Rattle.x509_fields.specs.Times.{time_of, time_text}
 use Rattle.x509_fields.specs.Version.{version_text}
 use Rattle.x509_extensions.specs.Extension.{extension_of}

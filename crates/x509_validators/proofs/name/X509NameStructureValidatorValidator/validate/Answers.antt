@@ -1,6 +1,6 @@
 use Rattle.std.proofs.Common.{◌∷◌, arith, ap, refl, map, ◌++◌, ◌∙◌}
 use Rattle.std.specs.List.{flat_map}
-use Rattle.x509_fields.specs.Names.{attributes_left}
+use Rattle.x509_names.specs.Names.{attributes_left}
 use Rattle.x509_validators.proofs.Names.{warnings_at, warnings_seen, seen_and_left, one_more_seen, all_seen}
 use Rattle.x509_validators.proofs.Viewed.{Took-next, StoppedAt-next}
 use Rattle.x509_validators.proofs.name.X509NameStructureValidatorValidator.validate.Goals as goal

@@ -1,0 +1,398 @@
+/* every_call SEED COUNT FILE..: calls every function of rushtrivet.h over each file as it is, over its fronts, and over COUNT changed ones,
+ * with no room, room for one, and for more; four threads do the same over one buffer. It looks at what holds of every answer, and is built
+ * with sanitizers: windows lie in the buffer, what was refused left its results alone, and a look-up answers as the index does. */
+#include "rushtrivet.h"
+#include <pthread.h>
+#include <stdio.h>
+#include <stdlib.h>
+#include <string.h>
+
+enum { ROOM = 16, THREADS = 4 };
+
+static void must(bool holds, const char *what) {
+    if (holds) return;
+    fprintf(stderr, "every_call: %s\n", what);
+    abort();
+}
+
+static void within(const uint8_t *der, size_t length, rtv_bytes it) {
+    must(it.length == 0 || (it.at >= der && it.at + it.length <= der + length), "a window outside of the buffer");
+}
+
+static void told(rtv_status status, size_t at, size_t before, size_t length) {
+    uint8_t words[48];
+    bool refused = status != RTV_OK && status != RTV_OUT_OF_MEMORY && status != RTV_NOT_FOUND;
+    must(refused ? at <= length : at == before, "an octet that is none");
+    must(rtv_word(status, words, sizeof words) > 0 && strcmp((char *)words, "unknown") != 0, "a status without words");
+    rtv_word(status, words, 1);
+    must(words[0] == 0, "a text without its end");
+    rtv_word(status, words, 0);
+}
+
+static void texts(const uint8_t *it, size_t length) {
+    uint8_t text[32], more[32];
+    size_t whole = 0, other = 0, at = 9;
+    rtv_status status;
+    for (size_t room = 0; room <= sizeof text; room += room ? sizeof text - 1 : 1) {
+        status = rtv_name_text(it, length, text, room, &whole, &at);
+        told(status, at, 9, length);
+        rtv_hex_text(it, length, text, room, &whole);
+        must(whole == (length ? 3 * length - 1 : 0), "a hex text of another length");
+        rtv_oid_text(it, length, text, room, &whole);
+        whole = other = 77777;
+        status = rtv_oid_word(it, length, text, room, &whole, more, room, &other);
+        must(status == RTV_OK || status == RTV_NOT_FOUND || status == RTV_OUT_OF_MEMORY, "a word of another status");
+        must((status == RTV_OK) == (whole != 77777) && (status == RTV_OK) == (other != 77777), "a word that is none");
+        if (status == RTV_OK && room > 0) must(text[whole < room ? whole : room - 1] == 0 && more[other < room ? other : room - 1] == 0, "a text without its end");
+        at = 9;
+    }
+}
+
+static void values(const uint8_t *it, size_t length) {
+    rtv_general_name names[ROOM];
+    rtv_attribute attributes[ROOM];
+    rtv_basic_constraints constraints = { 7, 7, 7 };
+    rtv_rsa_key key = RTV_RSA_KEY_INIT;
+    uint32_t usage = 0;
+    rtv_status status;
+    for (size_t room = 0; room <= ROOM; room += room ? ROOM - 1 : 1) {
+        size_t count = 0, at = 9;
+        rtv_init_general_names(names, ROOM);
+        rtv_init_attributes(attributes, ROOM);
+        status = rtv_read_general_names(it, length, names, room, &count, &at);
+        told(status, at, 9, length);
+        for (size_t k = 0; k < count && k < room; k++) within(it, length, names[k].value), within(it, length, names[k].id);
+        at = 9;
+        count = 0;
+        status = rtv_read_name(it, length, attributes, room, &count, &at);
+        told(status, at, 9, length);
+        for (size_t k = 0; k < count && k < room; k++) within(it, length, attributes[k].value), within(it, length, attributes[k].oid);
+    }
+    size_t at = 9;
+    status = rtv_read_key_usage(it, length, &usage, &at);
+    told(status, at, 9, length);
+    at = 9;
+    if (rtv_read_basic_constraints(it, length, &constraints, &at) != RTV_OK) must(constraints.ca == 7, "a result of a refusal");
+    at = 9;
+    status = rtv_read_rsa_key(it, length, &key, &at);
+    told(status, at, 9, length);
+    within(it, length, key.modulus);
+    within(it, length, key.exponent);
+    texts(it, length);
+}
+
+/* The other values: what each tells of octets of any kind, with no room, room for one, and for more. */
+static void others(const uint8_t *it, size_t length) {
+    rtv_general_name names[ROOM], more[ROOM];
+    rtv_bytes oids[ROOM], id = RTV_NO_BYTES;
+    rtv_policy policies[ROOM];
+    rtv_qualifier qualifiers[ROOM];
+    rtv_access accesses[ROOM];
+    rtv_timestamp timestamps[ROOM];
+    for (size_t room = 0; room <= ROOM; room += room ? ROOM - 1 : 1) {
+        rtv_authority_key key = RTV_AUTHORITY_KEY_INIT;
+        rtv_extended_key_usage usage = { 0, 7, 0, 0, 0, 0, 0, 0 };
+        rtv_name_constraints constraints = { 0, 0, 7, 0 };
+        size_t count = 0, at = 9;
+        rtv_init_general_names(names, ROOM);
+        rtv_init_general_names(more, ROOM);
+        rtv_init_bytes(oids, ROOM);
+        rtv_init_policies(policies, ROOM);
+        rtv_init_qualifiers(qualifiers, ROOM);
+        rtv_init_accesses(accesses, ROOM);
+        rtv_init_timestamps(timestamps, ROOM);
+        rtv_status status = rtv_read_extended_key_usage(it, length, &usage, oids, room, &at);
+        told(status, at, 9, length);
+        must((status == RTV_OK) == (usage.any != 7), "a result of a refusal");
+        for (size_t k = 0; k < usage.other_count && k < room; k++) within(it, length, oids[k]);
+        at = 9;
+        status = rtv_read_key_identifier(it, length, &id, &at);
+        told(status, at, 9, length);
+        within(it, length, id);
+        at = 9;
+        status = rtv_read_authority_key(it, length, &key, names, room, &at);
+        told(status, at, 9, length);
+        within(it, length, key.serial);
+        at = 9;
+        status = rtv_read_policies(it, length, policies, room, &count, &at);
+        told(status, at, 9, length);
+        for (size_t k = 0; k < count && k < 4; k++) {
+            size_t all = 0;
+            must(rtv_read_qualifiers(it, length, k, qualifiers, room, &all, &at) == RTV_OK, "a policy without qualifiers");
+            for (size_t n = 0; n < all && n < room; n++) within(it, length, qualifiers[n].value);
+        }
+        if (status == RTV_OK) must(rtv_read_qualifiers(it, length, count, qualifiers, room, &count, &at) == RTV_NOT_FOUND, "a policy too many");
+        at = 9;
+        count = 0;
+        status = rtv_read_accesses(it, length, accesses, room, &count, &at);
+        told(status, at, 9, length);
+        for (size_t k = 0; k < count && k < room; k++) within(it, length, accesses[k].location.value);
+        for (size_t k = 0; k < 4; k++) {
+            rtv_distribution_point point = { 0, 0, 7, 0, 0, 0 };
+            at = 9;
+            status = rtv_read_distribution_point(it, length, k, &point, names, room, more, room, &at);
+            told(status, at, 9, length);
+            must((status == RTV_OK) == (point.name_kind != 7), "a result of a refusal");
+        }
+        at = 9;
+        status = rtv_read_name_constraints(it, length, &constraints, names, room, more, room, &at);
+        told(status, at, 9, length);
+        must((status == RTV_OK) == (constraints.has_permitted != 7), "a result of a refusal");
+        at = 9;
+        count = 0;
+        status = rtv_read_timestamps(it, length, timestamps, room, &count, &at);
+        told(status, at, 9, length);
+        for (size_t k = 0; k < count && k < room; k++) within(it, length, timestamps[k].log_id), within(it, length, timestamps[k].signature);
+    }
+}
+
+/* The values of policies, of lists and of Netscape, likewise. */
+static void rules(const uint8_t *it, size_t length) {
+    rtv_policy_mapping mappings[ROOM];
+    rtv_general_name names[ROOM];
+    for (size_t room = 0; room <= ROOM; room += room ? ROOM - 1 : 1) {
+        rtv_policy_constraints constraints = { 7, 0, 7, 0 };
+        rtv_issuing_distribution_point point = { 0, 7, 0, 0, 0, 0, 0, 0 };
+        size_t count = 0, at = 9;
+        rtv_init_policy_mappings(mappings, ROOM);
+        rtv_init_general_names(names, ROOM);
+        rtv_status status = rtv_read_policy_constraints(it, length, &constraints, &at);
+        told(status, at, 9, length);
+        must((status == RTV_OK) == (constraints.has_require_explicit_policy != 7), "a result of a refusal");
+        at = 9;
+        status = rtv_read_policy_mappings(it, length, mappings, room, &count, &at);
+        told(status, at, 9, length);
+        for (size_t k = 0; k < count && k < room; k++) within(it, length, mappings[k].issuer_domain_policy), within(it, length, mappings[k].subject_domain_policy);
+        at = 9;
+        status = rtv_read_issuing_distribution_point(it, length, &point, names, room, &at);
+        told(status, at, 9, length);
+        must((status == RTV_OK) == (point.name_kind != 7), "a result of a refusal");
+        for (size_t k = 0; k < point.name_count && k < room; k++) within(it, length, names[k].value), within(it, length, names[k].id);
+    }
+    rtv_bytes octets = RTV_NO_BYTES;
+    uint32_t bits = 77777;
+    int64_t date = 77777;
+    size_t at = 9;
+    rtv_status status = rtv_read_inhibit_any_policy(it, length, &bits, &at);
+    told(status, at, 9, length);
+    at = 9;
+    bits = 77777;
+    status = rtv_read_reason_code(it, length, &bits, &at);
+    told(status, at, 9, length);
+    must(status == RTV_OK ? bits <= 10 : bits == 77777, "a reason that is none");
+    at = 9;
+    bits = 77777;
+    status = rtv_read_ns_cert_type(it, length, &bits, &at);
+    told(status, at, 9, length);
+    must(status == RTV_OK ? bits < 256 : bits == 77777, "a type that is none");
+    at = 9;
+    status = rtv_read_invalidity_date(it, length, &date, &at);
+    told(status, at, 9, length);
+    must(status == RTV_OK || date == 77777, "a result of a refusal");
+    at = 9;
+    status = rtv_read_crl_number(it, length, &octets, &at);
+    told(status, at, 9, length);
+    within(it, length, octets);
+    must(octets.length == 0 || octets.at[0] != 0, "a number with a zero in front");
+    at = 9;
+    status = rtv_read_ns_comment(it, length, &octets, &at);
+    told(status, at, 9, length);
+    must(status == RTV_OK || status == RTV_OUT_OF_MEMORY || at == 0, "a comment that is refused elsewhere");
+    within(it, length, octets);
+}
+
+static void key_info(const uint8_t *it, size_t length) {
+    rtv_key_info read = RTV_KEY_INFO_INIT;
+    size_t at = 9;
+    read.unused_bits = 77;
+    rtv_status status = rtv_read_key_info(it, length, &read, &at);
+    told(status, at, 9, length);
+    must((status == RTV_OK) == (read.unused_bits != 77), "a result of a refusal");
+    within(it, length, read.algorithm);
+    within(it, length, read.parameters);
+    within(it, length, read.bits);
+}
+
+/* As many lines as messages, each of a level; a small room has the front of the same text. */
+static void validation(const uint8_t *der, size_t length) {
+    static _Thread_local uint8_t lines[1 << 16];
+    uint8_t front[8];
+    for (size_t room = 0; room <= sizeof front; room += room ? sizeof front - 1 : 1) {
+        size_t whole = 77777, other = 77777, at = 9;
+        uint32_t sound = 7;
+        rtv_status status = rtv_validate(der, length, lines, sizeof lines, &whole, &sound, &at);
+        told(status, at, 9, length);
+        must(status == RTV_OK ? sound <= 1 : sound == 7 && whole == 77777, "a result of a refusal");
+        must(rtv_validate(der, length, front, room, &other, &sound, &at) == status && other == whole, "another answer");
+        if (status != RTV_OK) return;
+        size_t shown = whole < room ? whole : room ? room - 1 : 0;
+        must(memcmp(front, lines, shown) == 0 && (room == 0 || front[shown] == 0), "another front");
+        for (size_t k = 0; k < whole && whole < sizeof lines; k++) {
+            bool begins = k == 0 || lines[k - 1] == '\n';
+            must(!begins || memcmp(lines + k, "warning: ", 9) == 0 || memcmp(lines + k, "error: ", 7) == 0, "a line that is no message");
+            must(lines[k] >= 32 || lines[k] == '\n', "a control in a line");
+        }
+        must(whole == 0 || whole >= sizeof lines || lines[whole - 1] == '\n', "a line without its end");
+    }
+}
+
+static void report(const uint8_t *der, size_t length) {
+    static _Thread_local uint8_t line[1 << 16];
+    for (uint32_t kind = RTV_ANY; kind <= RTV_A_REQUEST; kind++) {
+        size_t whole = 0;
+        rtv_status status = rtv_json(der, length, kind, false, line, sizeof line, &whole);
+        must(status == RTV_OK || status == RTV_NOT_FOUND || status == RTV_OUT_OF_MEMORY, "a report of another status");
+        if (whole && whole < sizeof line) must(line[0] == '{' && line[whole - 1] == '}' && line[whole] == 0, "a line that is none");
+        rtv_json(der, length, kind, true, line, 1, &whole);
+        rtv_json(der, length, kind, true, line, 0, &whole);
+    }
+}
+
+static void every_value(const uint8_t *it, size_t length) {
+    values(it, length);
+    others(it, length);
+    rules(it, length);
+    key_info(it, length);
+}
+
+static void certificate(const uint8_t *der, size_t length) {
+    rtv_extension rows[ROOM];
+    bool taken[2] = { false, false };
+    for (int way = 0; way < 4; way++) {
+        for (size_t room = 0; room <= ROOM; room += room ? ROOM - 1 : 1) {
+            rtv_certificate it = RTV_CERTIFICATE_INIT;
+            size_t at = 9;
+            it.version = 77;
+            rtv_init_extensions(rows, ROOM);
+            rtv_status status = rtv_read_certificate(der, length, way & 1, way & 2, &it, rows, room, &at);
+            told(status, at, 9, length);
+            if (status != RTV_OK) {
+                must(it.version == 77 && it.whole.length == 0, "a result of a refusal");
+                continue;
+            }
+            taken[way >> 1] = true;
+            must(it.whole.at == der && it.rest.at == der + it.whole.length, "a rest that is none");
+            within(der, length, it.signed_part);
+            for (size_t k = 0; k < it.extension_count && k < room; k++) {
+                within(der, length, rows[k].oid);
+                within(der, length, rows[k].value);
+                if (room == ROOM && way == 0) every_value(rows[k].value.at, rows[k].value.length);
+            }
+            if (room == 0 && way == 0) values(it.subject.at, it.subject.length), values(it.key_bits.at, it.key_bits.length);
+            if (room == 0 && way == 0) key_info(it.key_info.at, it.key_info.length), validation(der, length);
+        }
+    }
+    must(taken[0] || !taken[1], "strict takes what loose refuses");
+}
+
+static void list(const uint8_t *der, size_t length) {
+    rtv_revoked revoked[ROOM];
+    rtv_extension rows[ROOM];
+    for (size_t room = 0; room <= ROOM; room += room ? ROOM - 1 : 1) {
+        rtv_list it = RTV_LIST_INIT;
+        size_t at = 9;
+        rtv_init_revoked(revoked, ROOM);
+        rtv_init_extensions(rows, ROOM);
+        rtv_status status = rtv_read_list(der, length, false, &it, revoked, room, rows, room, &at);
+        told(status, at, 9, length);
+        if (status != RTV_OK) return;
+        rtv_index_row index[ROOM];
+        size_t count = 0, first = 0, second = 0;
+        rtv_init_index_rows(index, ROOM);
+        status = rtv_index_build(der, length, index, room, &count, &at);
+        told(status, at, 9, length);
+        must(count == it.revoked_count, "an index of another count");
+        for (size_t k = 0; k < count && count <= room; k++) {
+            rtv_revoked found = RTV_REVOKED_INIT;
+            rtv_bytes serial = revoked[k].serial;
+            must(rtv_index_find(index, count, serial.at, serial.length, &first) == RTV_OK, "a serial that the index lacks");
+            must(rtv_find_revoked(der, length, serial.at, serial.length, &found, &second, &at) == RTV_OK && first == second,
+                 "another position");
+        }
+        for (size_t k = 0; k < it.revoked_count && k < room; k++) within(der, length, revoked[k].serial);
+        for (size_t k = 0; k < it.extension_count && k < room; k++) every_value(rows[k].value.at, rows[k].value.length);
+    }
+}
+
+static void request(const uint8_t *der, size_t length) {
+    rtv_request_attribute rows[ROOM];
+    for (size_t room = 0; room <= ROOM; room += room ? ROOM - 1 : 1) {
+        rtv_request it = RTV_REQUEST_INIT;
+        size_t at = 9;
+        rtv_status status;
+        rtv_init_request_attributes(rows, ROOM);
+        status = rtv_read_request(der, length, false, &it, rows, room, &at);
+        told(status, at, 9, length);
+        within(der, length, it.signed_part);
+        for (size_t k = 0; k < it.attribute_count && k < room; k++) within(der, length, rows[k].value);
+    }
+}
+
+static void all(const uint8_t *der, size_t length) {
+    certificate(der, length);
+    list(der, length);
+    request(der, length);
+    report(der, length);
+    if (length < 256) every_value(der, length), validation(der, length);
+}
+
+/* The octets in memory of their own length, so that a read beyond them is seen. */
+static void alone(const uint8_t *from, size_t length) {
+    uint8_t *copy = malloc(length ? length : 1);
+    if (!copy) exit(3);
+    memcpy(copy, from, length);
+    all(copy, length);
+    free(copy);
+}
+
+struct shared {
+    const uint8_t *der;
+    size_t length;
+};
+
+static void *reads(void *given) {
+    const struct shared *it = given;
+    all(it->der, it->length);
+    return NULL;
+}
+
+static void together(const uint8_t *der, size_t length) {
+    struct shared it = { der, length };
+    pthread_t threads[THREADS];
+    for (int k = 0; k < THREADS; k++) must(pthread_create(&threads[k], NULL, reads, &it) == 0, "no thread");
+    for (int k = 0; k < THREADS; k++) pthread_join(threads[k], NULL);
+}
+
+static uint64_t seed;
+
+static uint64_t next(void) {
+    seed ^= seed << 13;
+    seed ^= seed >> 7;
+    return seed ^= seed << 17;
+}
+
+int main(int count, char **words) {
+    static uint8_t room[1 << 20];
+    if (count < 4) return fprintf(stderr, "usage: every_call SEED COUNT FILE..\n"), 2;
+    seed = strtoull(words[1], NULL, 10) | 1;
+    uint64_t changed = strtoull(words[2], NULL, 10);
+    must(rtv_version() == RTV_VERSION, "another version");
+    alone(room, 0);
+    for (int k = 3; k < count; k++) {
+        FILE *file = fopen(words[k], "rb");
+        if (!file) return perror(words[k]), 2;
+        size_t length = fread(room, 1, sizeof room, file);
+        fclose(file);
+        alone(room, length);
+        together(room, length);
+        for (uint64_t n = changed / (uint64_t)(count - 3); length && n > 0; n--) {
+            size_t place = next() % length;
+            uint8_t octet = room[place];
+            room[place] = (uint8_t)(next() % 3 ? next() : octet + 1U);
+            alone(room, next() % 4 ? length : next() % length);
+            room[place] = octet;
+        }
+    }
+    printf("%d files\n", count - 3);
+    return 0;
+}

@@ -1,2 +1,0 @@
-mod Foreign
-mod Leaves

@@ -1,9 +1,0 @@
-pub mod KeyIdentifier
-pub mod ImplicitNames
-pub mod AuthorityKeyIdentifier
-pub mod InformationAccess
-pub mod ReasonFlags
-pub mod DistributionPointName
-pub mod DistributionPoints
-pub mod ImplicitBool
-pub mod IssuingDistributionPoint

@@ -1,0 +1,8 @@
+-- The rows are in order of their ranks.
+use Rattle.std.proofs.Common.{rules}
+use Rattle.std.proofs.lemmas.List.Sorted.{IsNonDecreasingBy-from_sort_by}
+use Rattle.x509_c.specs.Index.{rank}
+use Rattle.x509_c.proofs.index.sort.Goals as goal
+
+pub returns-clause-sorted : goal.returns-clause-sorted
+returns-clause-sorted c = IsNonDecreasingBy-from_sort_by rank _ c.sort_unstable_by.ensures.sorted (λ a r q k. search rules)

@@ -1,0 +1,11 @@
+-- The constraints that were read, or why there are none.
+use Rattle.std.proofs.Common.{refl, false}
+use Rattle.x509_values.specs.BasicConstraints.{basic_constraints}
+use Rattle.x509_c.proofs.Telling.{tells_read, tells_refused}
+use Rattle.x509_c.proofs.values.rtv_read_basic_constraints.Goals as goal
+
+pub returns-in-Ok : goal.returns-in-Ok
+returns-in-Ok c = tells_read false _ basic_constraints c.args.value.now _ _ _ c.args.at.now c.in-Ok.ensures c.basic_constraints_row.ensures
+
+pub returns-in-Err : goal.returns-in-Err
+returns-in-Err c = tells_refused false _ basic_constraints c.args.value.now _ _ c.in-Err.refusal c.args.at.now _ _ c.in-Err.ensures refl c.refused.ensures.at c.refused.ensures.status

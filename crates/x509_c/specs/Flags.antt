@@ -1,0 +1,6 @@
+-- Truth values as numbers.
+use Rattle.std.specs.Prelude.{ℕ, Bool, if◌then◌else◌}
+
+-- 1 where it is true, and else 0
+abbrev pub flag : Bool → ℕ
+flag b = if b then 1 else 0

@@ -1,0 +1,16 @@
+-- Rows of the caller.
+use Rattle.std.specs.Prelude.{◌≡◌, ℕ, ◌<◌, ◌+◌, List, length, min, slice_index_or}
+
+-- each row below an index shows its item
+abbrev pub RowsShowBelow : {R X : Type 0} → (R → X → Type 0) → ℕ → List R → List X → Type 0
+RowsShowBelow {R} {X} Shows i rows items = (k : ℕ) (r : R) (x : X) → k < i → Shows (slice_index_or rows k r) (slice_index_or items k x)
+
+-- each row shows its item, as far as there are rows and items
+abbrev pub RowsShow : {R X : Type 0} → (R → X → Type 0) → List R → List X → Type 0
+RowsShow {R} {X} Shows rows items = (k : ℕ) (r : R) (x : X) → k < length rows → k < length items → Shows (slice_index_or rows k r) (slice_index_or items k x)
+
+-- Behind the rows that were written stand those of more items, as many as have room: the rows before them are as they were.
+pub record ContinuesRows {R X : Type 0} (Shows : R → X → Type 0) (before : ℕ) (old : List R) (after : ℕ) (new : List R) (items : List X) : Type 0 where
+  pub count : after ≡ min (length new) (before + length items)
+  pub kept : (k : ℕ) (r : R) → k < before → slice_index_or new k r ≡ slice_index_or old k r
+  pub shown : (k : ℕ) (r : R) (x : X) → before + k < after → Shows (slice_index_or new (before + k) r) (slice_index_or items k x)

@@ -1,0 +1,131 @@
+//! Where lists of revoked certificates are found.
+
+ghost use Rattle.std.specs.Prelude.{◌≡◌, [], length, map};
+ghost use Rattle.x509_general_names.specs.DistributionPoints.{crl_distribution_points, point_of};
+ghost use Rattle.x509_general_names.specs.GeneralName.{general_name_of};
+ghost use Rattle.x509_c.specs.DistributionPoints.{FindsPoint, IsPointRow, ShowsPoint, full_names, name_kind};
+ghost use Rattle.x509_c.specs.GeneralNames.{IsGeneralNameRow};
+ghost use Rattle.x509_c.specs.Options.{is_there, there_or};
+ghost use Rattle.x509_c.specs.Tells.{Tells};
+
+use crate::general_names::GeneralNameRow;
+use crate::options::is_some;
+use crate::row_writer::put_rows;
+use crate::status::{NOT_FOUND, OK, refused};
+use std::alloc::Global;
+use x509_der::FromDer;
+use x509_general_names::{
+    CRLDistributionPoint, CRLDistributionPoints, DistributionPointName, GeneralName,
+};
+
+/// Where a list is found: `rtv_distribution_point` of rushtrivet.h.
+#[repr(C)]
+#[derive(Clone, Copy)]
+pub struct PointRow {
+    /// How many full names the point has.
+    pub name_count: usize,
+    /// How many names the issuer of the list has.
+    pub issuer_count: usize,
+    /// 0 where the point has no name, 1 where it has full names, 2 where its name stands relative to the issuer's.
+    pub name_kind: u32,
+    /// 1 where the reasons are named that the list covers, and else 0.
+    pub has_reasons: u32,
+    /// The reasons: bit k is set where bit k of the BIT STRING is; 0 where none are named.
+    pub reasons: u32,
+    /// 1 where the issuer of the list is named, and else 0.
+    pub has_issuer: u32,
+}
+
+fn name_kind(point: &CRLDistributionPoint<'_>) -> u32
+    ensures { result ≡ name_kind (point_of point.now).name }
+{
+    match &point.distribution_point {
+        None => 0,
+        Some(DistributionPointName::FullName(_)) => 1,
+        Some(DistributionPointName::NameRelativeToCRLIssuer(_)) => 2,
+    }
+}
+
+fn point_names<'v, 'a>(point: &'v CRLDistributionPoint<'a>) -> &'v [GeneralName<'a>]
+    ensures { map general_name_of result.now ≡ full_names (point_of point.now).name }
+{
+    match &point.distribution_point {
+        Some(DistributionPointName::FullName(names)) => names.as_slice(),
+        _ => &[],
+    }
+}
+
+fn issuer_names<'v, 'a>(point: &'v CRLDistributionPoint<'a>) -> &'v [GeneralName<'a>]
+    ensures { map general_name_of result.now ≡ there_or [] (point_of point.now).issuer }
+{
+    match &point.crl_issuer {
+        Some(names) => names.as_slice(),
+        None => &[],
+    }
+}
+
+fn reasons(point: &CRLDistributionPoint<'_>) -> u32
+    ensures { result ≡ there_or 0 (point_of point.now).reasons }
+{
+    match point.reasons {
+        Some(reasons) => u32::from(reasons.flags),
+        None => 0,
+    }
+}
+
+fn point_row(point: &CRLDistributionPoint<'_>) -> PointRow
+    ensures { IsPointRow result (point_of point.now) }
+{
+    PointRow {
+        name_count: point_names(point).len(),
+        issuer_count: issuer_names(point).len(),
+        name_kind: name_kind(point),
+        has_reasons: is_some(&point.reasons),
+        reasons: reasons(point),
+        has_issuer: is_some(&point.crl_issuer),
+    }
+}
+
+/// Writes the point at a position with its names, or tells that none stands there.
+fn find_point<'a>(
+    points: &[CRLDistributionPoint<'a>],
+    position: usize,
+    point: &mut PointRow,
+    names: &mut [GeneralNameRow<'a>],
+    issuer: &mut [GeneralNameRow<'a>],
+) -> u32
+    ensures found { FindsPoint (map point_of points.now) position point.new names.new issuer.new result }
+    ensures kept { (result ≡ 0 → ⊥) → (point.new ≡ point.old) × (names.new ≡ names.old) × (issuer.new ≡ issuer.old) }
+{
+    if position >= points.len() {
+        return NOT_FOUND;
+    }
+    let found = &points[position];
+    *point = point_row(found);
+    put_rows(names, point_names(found));
+    put_rows(issuer, issuer_names(found));
+    OK
+}
+
+/// The distribution point at this position, from 0 on (RFC 5280, section 4.2.1.13): its full names and those of the issuer of its list
+/// are written in order, as many as there are rows; 50 where no point stands there.
+#[unsafe(no_mangle)]
+pub extern "C" fn rtv_read_distribution_point<'a>(
+    alloc: Global,
+    value: &'a [u8],
+    position: usize,
+    point: &mut PointRow,
+    names: &mut [GeneralNameRow<'a>],
+    issuer: &mut [GeneralNameRow<'a>],
+    at: &mut usize,
+) -> u32
+    ensures { Tells crl_distribution_points value.now
+        (λ read _. FindsPoint read position point.new names.new issuer.new)
+        ((point.new ≡ point.old) × (names.new ≡ names.old) × (issuer.new ≡ issuer.old))
+        at.old at.new result }
+{
+    match CRLDistributionPoints::from_der_located(alloc, value) {
+        Ok((_, read)) => find_point(read.points.as_slice(), position, point, names, issuer),
+        Err(refusal) => refused(refusal, at),
+    }
+}

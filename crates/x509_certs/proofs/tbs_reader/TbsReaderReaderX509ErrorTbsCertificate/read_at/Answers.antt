@@ -1,0 +1,30 @@
+use Rattle.std.proofs.Common.{rules}
+use Rattle.std.proofs.Math.Bool.{and_assoc}
+use Rattle.x509_der.proofs.Marking.{marks_of_readers}
+use Rattle.x509_certs.specs.TbsCertificate.{tbs}
+use Rattle.x509_certs.specs.UniqueIdentifier.{issuer_uid_plain, subject_uid_plain}
+use Rattle.x509_certs.proofs.tbs_reader.TbsReaderReaderX509ErrorTbsCertificate.read_at.Goals as goal
+
+pub returns-clause-reads : goal.returns-clause-reads
+unfolding tbs
+returns-clause-reads g c = record {
+  reads = search (rules, marks_of_readers);
+  marks = search (rules, marks_of_readers, issuer_uid_plain, subject_uid_plain, and_assoc);
+  grows = search rules;
+  count = search rules;
+  foreign = search rules;
+  least = search rules;
+  there = search rules;
+}
+
+pub returns-in-Err-read_wrapped_at-clause-reads : goal.returns-in-Err-read_wrapped_at-clause-reads
+unfolding tbs
+returns-in-Err-read_wrapped_at-clause-reads g c = record {
+  reads = search (rules, marks_of_readers);
+  marks = search (rules, marks_of_readers);
+  grows = search rules;
+  count = search rules;
+  foreign = search rules;
+  least = search rules;
+  there = search rules;
+}

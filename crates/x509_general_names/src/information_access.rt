@@ -1,0 +1,343 @@
+//! Where more about an issuer or a subject is found.
+
+ghost use Rattle.std.specs.Prelude.{◌≡◌, List, map, true, IfOk, IfErr};
+ghost use Rattle.x509_der.specs.Place.{at, outside_of};
+ghost use Rattle.x509_der.specs.Primitives.{is_constructed};
+ghost use Rattle.x509_der.specs.Promises.{ReadsAt};
+ghost use Rattle.x509_der.specs.Reading.{strict};
+ghost use Rattle.x509_der.specs.declared.oid.Oid.{Oid as OidOf};
+ghost use Rattle.x509_fields.specs.Errors.{is_x509_memory};
+ghost use Rattle.x509_fields.specs.declared.error.X509Error.TheVariants.{OutOfMemory};
+ghost use Rattle.x509_fields.specs.Groups.{held, pointed};
+ghost use Rattle.x509_general_names.specs.InformationAccess.{Access, access_of, authority_accesses_of, subject_accesses_of, access_description, information_access, access_heads, information_access_heads, access_description_laws, information_access_laws, accesses_left, locations};
+
+use crate::access_iter::AccessIter;
+use crate::general_name::GeneralName;
+use std::alloc::Global;
+use std::collections::HashMap;
+use std::hash::BuildHasher;
+use x509_der::{
+    ErrorKind, Fields, FromDer, Oid, Outside, Place, Refused, Sequence, Tries, read_run,
+};
+use x509_fields::{TryClone, X509Error, add_to_group, list_error, sequence_at};
+
+/// How and where something is found (RFC 5280, section 4.2.2.1).
+///
+/// ```text
+/// AccessDescription ::= SEQUENCE {
+///     accessMethod    OBJECT IDENTIFIER,
+///     accessLocation  GeneralName }
+/// ```
+#[derive(Debug, PartialEq, Drop)]
+pub struct AccessDescription<'a> {
+    /// The kind of what is found there, as OCSP or the issuer's certificates.
+    pub access_method: Oid<'a>,
+    /// Where it is found.
+    pub access_location: GeneralName<'a>,
+}
+
+impl<'a> AccessDescription<'a> {
+    /// The description of this method and location.
+    pub const fn new(access_method: Oid<'a>, access_location: GeneralName<'a>) -> Self
+        ensures method { result.access_method ≡ access_method.entry }
+        ensures location { result.access_location ≡ access_location.entry }
+    {
+        AccessDescription {
+            access_method,
+            access_location,
+        }
+    }
+}
+
+/// The first field that cannot be read refuses, for its own reason; bytes behind the location are skipped.
+impl<'a> FromDer<'a, X509Error> for AccessDescription<'a> {
+    ghost Value = { Access };
+
+    ghost view = { access_of };
+
+    ghost plan = { access_description };
+
+    ghost laws = { access_description_laws.laws.lawful };
+
+    ghost marked = { access_description_laws.marked };
+
+    ghost form = { strict };
+
+    ghost own_tag = { is_constructed 16 };
+
+    ghost heads = { access_heads };
+
+    ghost takes_memory = { true };
+
+    #[tactic(auto, unfolding(crate::specs::InformationAccess::access_description), using(x509_der::proofs::Marking::marks_of_readers))]
+    fn read_at<L: Outside>(
+        alloc: Global,
+        tries: &mut Tries,
+        place: &Place<'a, L>,
+    ) -> Result<(Self, bool), Refused<X509Error, L>> {
+        let contents = sequence_at(place)?;
+        let fields = Fields::of(tries, &contents);
+        let (fields, access_method) = fields.oid(tries).map_err(|e| e.convert())?;
+        let (access_location, plain) = fields.last(alloc, tries)?;
+        let description = AccessDescription {
+            access_method,
+            access_location,
+        };
+        Ok((description, plain))
+    }
+
+    ghost never_memory = { access_description_laws.laws.never_memory };
+}
+
+impl TryClone for AccessDescription<'_> {
+    fn try_clone(&self) -> Result<Self, X509Error> {
+        let access_location = self.access_location.try_clone()?;
+        Ok(AccessDescription {
+            access_method: self.access_method,
+            access_location,
+        })
+    }
+}
+
+/// Where information about the issuer and its services are found (RFC 5280, section 4.2.2.1).
+///
+/// ```text
+/// AuthorityInfoAccessSyntax ::= SEQUENCE SIZE (1..MAX) OF AccessDescription
+/// ```
+#[derive(Debug, PartialEq, Drop)]
+pub struct AuthorityInfoAccess<'a> {
+    /// The access descriptions, in order.
+    pub accessdescs: Sequence<AccessDescription<'a>>,
+}
+
+impl<'a> AuthorityInfoAccess<'a> {
+    /// The access descriptions, in order.
+    pub fn iter(&self) -> AccessIter<'_, 'a>
+        ensures { accesses_left result ≡ self.now.accessdescs }
+    {
+        AccessIter::new(self.accessdescs.as_slice())
+    }
+
+    /// The locations under each method, in order, and no other key.
+    ///
+    /// # Errors
+    ///
+    /// `OutOfMemory`.
+    pub fn as_hashmap<S: BuildHasher + Drop>(
+        &self,
+        alloc: Global,
+        hasher: S,
+    ) -> Result<HashMap<Oid<'a>, Vec<&GeneralName<'a>>, S>, X509Error>
+        ensures groups { IfOk result (λ m. (q : OidOf) → pointed (held m q) ≡ locations self.now.accessdescs q) }
+        ensures err { IfErr result (λ e. e ≡ OutOfMemory) }
+    {
+        lent(alloc, hasher, self.accessdescs.as_slice())
+    }
+
+    /// The locations under each method, in order, and no other key.
+    ///
+    /// # Errors
+    ///
+    /// `OutOfMemory`; then nothing is handed back.
+    pub fn into_hashmap<S: BuildHasher + Drop>(
+        self,
+        alloc: Global,
+        hasher: S,
+    ) -> Result<HashMap<Oid<'a>, Vec<GeneralName<'a>>, S>, X509Error>
+        ensures groups { IfOk result (λ m. (q : OidOf) → held m q ≡ locations self.entry.accessdescs q) }
+        ensures err { IfErr result (λ e. e ≡ OutOfMemory) }
+    {
+        owned(alloc, hasher, self.accessdescs.into_vec())
+    }
+}
+
+/// The descriptions fill the SEQUENCE, which may be empty; else they are `Error(Der(NomError(Eof)))`.
+impl<'a> FromDer<'a, X509Error> for AuthorityInfoAccess<'a> {
+    ghost Value = { List Access };
+
+    ghost view = { authority_accesses_of };
+
+    ghost plan = { information_access };
+
+    ghost laws = { information_access_laws.laws.lawful };
+
+    ghost marked = { information_access_laws.marked };
+
+    ghost form = { strict };
+
+    ghost own_tag = { is_constructed 16 };
+
+    ghost heads = { information_access_heads };
+
+    ghost takes_memory = { true };
+
+    fn read_at<L: Outside>(
+        alloc: Global,
+        tries: &mut Tries,
+        place: &Place<'a, L>,
+    ) -> Result<(Self, bool), Refused<X509Error, L>> {
+        let (accessdescs, plain) = accesses_at(alloc, tries, place)?;
+        Ok((AuthorityInfoAccess { accessdescs }, plain))
+    }
+
+    ghost never_memory = { information_access_laws.laws.never_memory };
+}
+
+impl TryClone for AuthorityInfoAccess<'_> {
+    fn try_clone(&self) -> Result<Self, X509Error> {
+        let accessdescs = self.accessdescs.try_clone()?;
+        Ok(AuthorityInfoAccess { accessdescs })
+    }
+}
+
+/// Where information about the subject and its services are found (RFC 5280, section 4.2.2.2).
+///
+/// ```text
+/// SubjectInfoAccessSyntax ::= SEQUENCE SIZE (1..MAX) OF AccessDescription
+/// ```
+#[derive(Debug, PartialEq, Drop)]
+pub struct SubjectInfoAccess<'a> {
+    /// The access descriptions, in order.
+    pub accessdescs: Sequence<AccessDescription<'a>>,
+}
+
+impl<'a> SubjectInfoAccess<'a> {
+    /// The access descriptions, in order.
+    pub fn iter(&self) -> AccessIter<'_, 'a>
+        ensures { accesses_left result ≡ self.now.accessdescs }
+    {
+        AccessIter::new(self.accessdescs.as_slice())
+    }
+
+    /// The locations under each method, in order, and no other key.
+    ///
+    /// # Errors
+    ///
+    /// `OutOfMemory`.
+    pub fn as_hashmap<S: BuildHasher + Drop>(
+        &self,
+        alloc: Global,
+        hasher: S,
+    ) -> Result<HashMap<Oid<'a>, Vec<&GeneralName<'a>>, S>, X509Error>
+        ensures groups { IfOk result (λ m. (q : OidOf) → pointed (held m q) ≡ locations self.now.accessdescs q) }
+        ensures err { IfErr result (λ e. e ≡ OutOfMemory) }
+    {
+        lent(alloc, hasher, self.accessdescs.as_slice())
+    }
+
+    /// The locations under each method, in order, and no other key.
+    ///
+    /// # Errors
+    ///
+    /// `OutOfMemory`; then nothing is handed back.
+    pub fn into_hashmap<S: BuildHasher + Drop>(
+        self,
+        alloc: Global,
+        hasher: S,
+    ) -> Result<HashMap<Oid<'a>, Vec<GeneralName<'a>>, S>, X509Error>
+        ensures groups { IfOk result (λ m. (q : OidOf) → held m q ≡ locations self.entry.accessdescs q) }
+        ensures err { IfErr result (λ e. e ≡ OutOfMemory) }
+    {
+        owned(alloc, hasher, self.accessdescs.into_vec())
+    }
+}
+
+/// As [`AuthorityInfoAccess`].
+impl<'a> FromDer<'a, X509Error> for SubjectInfoAccess<'a> {
+    ghost Value = { List Access };
+
+    ghost view = { subject_accesses_of };
+
+    ghost plan = { information_access };
+
+    ghost laws = { information_access_laws.laws.lawful };
+
+    ghost marked = { information_access_laws.marked };
+
+    ghost form = { strict };
+
+    ghost own_tag = { is_constructed 16 };
+
+    ghost heads = { information_access_heads };
+
+    ghost takes_memory = { true };
+
+    fn read_at<L: Outside>(
+        alloc: Global,
+        tries: &mut Tries,
+        place: &Place<'a, L>,
+    ) -> Result<(Self, bool), Refused<X509Error, L>> {
+        let (accessdescs, plain) = accesses_at(alloc, tries, place)?;
+        Ok((SubjectInfoAccess { accessdescs }, plain))
+    }
+
+    ghost never_memory = { information_access_laws.laws.never_memory };
+}
+
+impl TryClone for SubjectInfoAccess<'_> {
+    fn try_clone(&self) -> Result<Self, X509Error> {
+        let accessdescs = self.accessdescs.try_clone()?;
+        Ok(SubjectInfoAccess { accessdescs })
+    }
+}
+
+// Descriptions in a SEQUENCE that they fill, and their mark.
+#[tactic(auto, unfolding(crate::specs::InformationAccess::information_access), using(x509_der::proofs::Marking::marks_of_readers))]
+fn accesses_at<'a, L: Outside>(
+    alloc: Global,
+    tries: &mut Tries,
+    place: &Place<'a, L>,
+) -> Result<(Sequence<AccessDescription<'a>>, bool), Refused<X509Error, L>>
+    ensures { ReadsAt is_x509_memory true strict (is_constructed 16) information_access_heads (λ x. map access_of x) information_access L.adds (at place.now) (outside_of place.now) tries.old tries.new result }
+{
+    let contents = sequence_at(place)?;
+    let (rest, accesses, plain) = place.judge(read_run(alloc, tries, contents.bytes()))?;
+    if !rest.is_empty() {
+        return Err(contents.refuse_at(rest, list_error(ErrorKind::Eof)));
+    }
+    Ok((accesses, plain))
+}
+
+// The locations under each method, in order.
+#[tactic(auto, using(x509_fields::proofs::Grouped::grouping))]
+fn lent<'v, 'a, S: BuildHasher + Drop>(
+    alloc: Global,
+    hasher: S,
+    accesses: &'v [AccessDescription<'a>],
+) -> Result<HashMap<Oid<'a>, Vec<&'v GeneralName<'a>>, S>, X509Error>
+    ensures groups { IfOk result (λ m. (q : OidOf) → pointed (held m q) ≡ locations accesses.now q) }
+    ensures err { IfErr result (λ e. e ≡ OutOfMemory) }
+{
+    let mut map = HashMap::with_hasher(alloc, hasher);
+    for access in accesses {
+        add_to_group(
+            alloc,
+            &mut map,
+            access.access_method,
+            &access.access_location,
+        )?;
+    }
+    Ok(map)
+}
+
+// The locations under each method, in order.
+#[tactic(auto, using(x509_fields::proofs::Grouped::grouping))]
+fn owned<'a, S: BuildHasher + Drop>(
+    alloc: Global,
+    hasher: S,
+    accesses: Vec<AccessDescription<'a>>,
+) -> Result<HashMap<Oid<'a>, Vec<GeneralName<'a>>, S>, X509Error>
+    ensures groups { IfOk result (λ m. (q : OidOf) → held m q ≡ locations accesses.entry.items q) }
+    ensures err { IfErr result (λ e. e ≡ OutOfMemory) }
+{
+    let mut map = HashMap::with_hasher(alloc, hasher);
+    for access in accesses {
+        add_to_group(
+            alloc,
+            &mut map,
+            access.access_method,
+            access.access_location,
+        )?;
+    }
+    Ok(map)
+}

@@ -1,5 +1,0 @@
-pub mod Findings
-pub mod Kept
-pub mod Logs
-pub mod Steps
-pub mod Walking

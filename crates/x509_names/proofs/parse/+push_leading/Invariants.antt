@@ -1,0 +1,4 @@
+use Rattle.x509_names.proofs.parse.+push_leading.Given as goal
+
+abbrev pub decreases-push_leading : goal.decreases-push_leading
+decreases-push_leading l = l.number

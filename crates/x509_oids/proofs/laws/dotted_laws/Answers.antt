@@ -1,9 +1,0 @@
-use Rattle.x509_oids.proofs.Texts.{not_refused, unrefused, same_octets, IsShownAs-text, IsDottedText-shown}
-use Rattle.x509_oids.proofs.laws.dotted_laws.Goals as goal
-
-pub returns : goal.returns
-returns c = record {
-  named = λ text. (unrefused text, λ (octets, is). not_refused text octets is);
-  one = same_octets;
-  shown = λ text octets. (IsShownAs-text text octets, IsDottedText-shown text octets);
-}

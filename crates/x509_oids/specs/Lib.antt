@@ -1,3 +1,0 @@
-pub mod Arcs
-pub mod Refusals
-pub mod Parsing

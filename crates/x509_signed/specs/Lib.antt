@@ -1,2 +1,0 @@
-pub mod Serial
-pub mod Signed

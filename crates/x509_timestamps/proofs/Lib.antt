@@ -1,5 +1,0 @@
-pub mod BigEndian
-pub mod Plain
-pub mod Fronts
-pub mod Refusals
-pub mod Written

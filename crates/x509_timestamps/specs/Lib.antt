@@ -1,6 +1,0 @@
-pub mod Octets
-pub mod Sentence
-pub mod OctetLaws
-pub mod Timestamp
-pub mod TimestampList
-pub mod Presentation

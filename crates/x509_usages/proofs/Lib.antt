@@ -1,3 +1,0 @@
-pub mod Purposes
-pub mod FormOfYear
-pub mod Comments

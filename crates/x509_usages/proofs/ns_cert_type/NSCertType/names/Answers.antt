@@ -1,7 +1,0 @@
-use Rattle.std.proofs.Common.{ap, ◌∙◌}
-use Rattle.x509_parts.specs.Texts.{set_names}
-use Rattle.x509_usages.specs.NsCertType.{ns_cert_type_words}
-use Rattle.x509_usages.proofs.ns_cert_type.NSCertType.names.Goals as goal
-
-pub returns : goal.returns
-returns c = c.new.ensures ∙ ap (set_names ns_cert_type_words) c.from.ensures

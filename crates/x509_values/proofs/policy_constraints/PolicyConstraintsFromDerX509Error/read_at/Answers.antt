@@ -1,0 +1,16 @@
+use Rattle.std.proofs.Common.{rules}
+use Rattle.x509_der.proofs.Marking.{marks_of_readers}
+use Rattle.x509_values.specs.PolicyConstraints.{policy_constraints, policy_constraints_fields}
+use Rattle.x509_values.proofs.policy_constraints.PolicyConstraintsFromDerX509Error.read_at.Goals as goal
+
+pub returns-clause-reads : goal.returns-clause-reads
+unfolding policy_constraints policy_constraints_fields
+returns-clause-reads g c = record {
+  reads = search (rules, marks_of_readers);
+  marks = search (rules, marks_of_readers);
+  grows = search rules;
+  count = search rules;
+  foreign = search rules;
+  least = search rules;
+  there = search rules;
+}

@@ -1,0 +1,57 @@
+//! From where on the policy that stands for any other is ignored.
+
+ghost use Rattle.std.specs.Prelude.{ℕ, false};
+ghost use Rattle.x509_der.specs.Primitives.{is_primitive};
+ghost use Rattle.x509_der.specs.Reading.{strict};
+ghost use Rattle.x509_values.specs.InhibitAnyPolicy.{inhibit_any_policy, inhibit_any_policy_laws};
+
+use std::alloc::Global;
+use x509_der::{FromDer, Outside, Place, Refused, Tries};
+use x509_fields::X509Error;
+
+/// From where on the policy that stands for any other is ignored (RFC 5280, section 4.2.1.14).
+///
+/// ```text
+/// InhibitAnyPolicy ::= SkipCerts
+///
+/// SkipCerts ::= INTEGER (0..MAX)
+/// ```
+///
+/// A number of more than 32 bits is refused as `BerValueError`.
+#[derive(Clone, Copy, Debug, PartialEq, Eq)]
+pub struct InhibitAnyPolicy {
+    /// How many more certificates may stand in the path before it is.
+    pub skip_certs: u32,
+}
+
+impl<'a> FromDer<'a, X509Error> for InhibitAnyPolicy {
+    ghost Value = { ℕ };
+
+    ghost view = { λ policy. policy.skip_certs };
+
+    ghost plan = { inhibit_any_policy };
+
+    ghost laws = { inhibit_any_policy_laws.laws.lawful };
+
+    ghost marked = { inhibit_any_policy_laws.marked };
+
+    ghost form = { strict };
+
+    ghost own_tag = { is_primitive 2 };
+
+    ghost heads = { λ _. 1 };
+
+    ghost takes_memory = { false };
+
+    #[tactic(auto, unfolding(crate::specs::InhibitAnyPolicy::inhibit_any_policy, x509_der::specs::Leaves::u32, x509_der::specs::Primitives::contents_at), using(x509_der::proofs::Marking::marks_of_readers))]
+    fn read_at<L: Outside>(
+        _alloc: Global,
+        _tries: &mut Tries,
+        place: &Place<'a, L>,
+    ) -> Result<(Self, bool), Refused<X509Error, L>> {
+        let skip_certs = place.u32().map_err(|e| e.convert())?;
+        Ok((InhibitAnyPolicy { skip_certs }, true))
+    }
+
+    ghost never_memory = { inhibit_any_policy_laws.laws.never_memory };
+}

@@ -1,0 +1,4 @@
+pub mod CertificateEvents
+pub mod CertificateVisits
+pub mod ListEvents
+pub mod ListVisits

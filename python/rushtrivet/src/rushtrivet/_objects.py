@@ -1,0 +1,207 @@
+"""What certificates, lists and requests have in common."""
+
+from __future__ import annotations
+
+import hashlib
+from dataclasses import dataclass
+from datetime import datetime, timedelta, timezone
+from typing import Any, Callable, ClassVar, Dict, Generic, NamedTuple, Optional, Type, TypeVar, Union, overload
+
+from ._library import Buffer, Caller, Kind, Numbers, Octets, RsaKeyStruct, identifier, lib, octets, report
+from .oid import ObjectIdentifier, PublicKeyAlgorithmOID
+
+_RSA_KEYS = Caller(RsaKeyStruct)
+_EPOCH = datetime(1970, 1, 1, tzinfo=timezone.utc)
+
+
+def utc(seconds: int) -> datetime:
+    """The time so many seconds after 1970-01-01T00:00:00Z. ValueError where it isn't in the years from 1 to 9999."""
+    try:
+        return _EPOCH + timedelta(seconds=seconds)
+    except OverflowError:
+        raise ValueError(f"{seconds} seconds since 1970 are outside of the years 1 to 9999 of a datetime") from None
+
+
+def signed_number(contents: bytes) -> int:
+    """The number in the contents of an INTEGER: the first bit is its sign."""
+    return int.from_bytes(contents, "big", signed=True)
+
+
+def serial_contents(serial: Union[int, Octets]) -> bytes:
+    """The contents of the INTEGER of a serial number, as DER writes it; octets are taken as they are."""
+    if not isinstance(serial, int):
+        return octets(serial)
+    bits = (serial if serial >= 0 else serial + 1).bit_length()
+    return serial.to_bytes(bits // 8 + 1, "big", signed=True)
+
+
+Value = TypeVar("Value")
+Self = TypeVar("Self", bound="kept[Any]")
+
+
+class kept(Generic[Value]):
+    """An attribute that is made when it is first asked for, as functools.cached_property, but without its lock.
+
+    Two threads may both make it, and make the same.
+    """
+
+    def __init__(self, make: Callable[[Any], Value]) -> None:
+        self._make = make
+        self._name = make.__name__
+        self.__doc__ = make.__doc__
+
+    @overload
+    def __get__(self: Self, of: None, kind: Type[Any]) -> Self: ...
+
+    @overload
+    def __get__(self, of: object, kind: Type[Any]) -> Value: ...
+
+    def __get__(self: Self, of: Any, kind: Type[Any]) -> Any:
+        if of is None:
+            return self
+        value = of.__dict__[self._name] = self._make(of)
+        return value
+
+
+class RSAPublicNumbers(NamedTuple):
+    """The numbers of an RSA key."""
+
+    n: int
+    """The modulus."""
+
+    e: int
+    """The exponent."""
+
+
+@dataclass(frozen=True)
+class HashAlgorithm:
+    """A hash, as a part of the algorithm of a signature."""
+
+    name: str
+    """As hashlib knows it: "sha256"."""
+
+
+@dataclass(frozen=True)
+class PublicKey:
+    """What is said of a key. Its octets are the object's `public_key_bytes`."""
+
+    kind: str
+    """rsa, ec, ed25519, ed448, x25519, x448, rsa_pss, dsa, gost_r3410_2001, gost_r3410_2012, unknown or refused."""
+
+    key_size: Optional[int]
+    """In bits, as the report has it; None where it isn't known."""
+
+    curve: Optional[str]
+    """The name of an elliptic curve that is known."""
+
+
+class SignedObject:
+    """Octets that were read, and what was found in them."""
+
+    _kind: ClassVar[Kind]
+    _place: ClassVar[Dict[str, int]]
+
+    def __init__(self, buffer: Buffer, found: Numbers) -> None:
+        self._buffer = buffer
+        self._found = found
+
+    def _window(self, field: str) -> bytes:
+        place = self._place[field]
+        return self._buffer.window(self._found[place], self._found[place + 1])
+
+    def _element(self, field: str) -> bytes:
+        place = self._place[field]
+        return self._buffer.element(self._found[place], self._found[place + 1])
+
+    def _number(self, field: str) -> int:
+        return self._found[self._place[field]]
+
+    def _oid(self, field: str) -> ObjectIdentifier:
+        return identifier(self._window(field))
+
+    @kept
+    def _report(self) -> Dict[str, Any]:
+        return report(self._buffer, self._kind)
+
+    def public_bytes(self) -> bytes:
+        """The octets of the object (DER), as they were read, without those behind it."""
+        return self._window("whole")
+
+    @property
+    def rest(self) -> bytes:
+        """The octets behind the object: empty where it was all."""
+        return self._window("rest")
+
+    @property
+    def signature(self) -> bytes:
+        """The octets of the signature. It isn't checked."""
+        return self._window("signature")
+
+    @property
+    def signature_algorithm_oid(self) -> ObjectIdentifier:
+        """The algorithm of the signature, as it stands outside of the signed part."""
+        return self._oid("signature_algorithm")
+
+    @property
+    def signature_hash_algorithm(self) -> Optional[HashAlgorithm]:
+        """The hash that the signature is over; None where the algorithm isn't known, or has none of its own."""
+        told = self._report["signature_algorithm"]["hash"]
+        return HashAlgorithm(told) if told else None
+
+    def fingerprint(self, hash_name: str = "sha256") -> bytes:
+        """The hash of the object's octets, by a name that hashlib knows. ValueError where it doesn't."""
+        return hashlib.new(hash_name, self.public_bytes()).digest()
+
+    def __eq__(self, other: object) -> bool:
+        if not isinstance(other, SignedObject) or type(other) is not type(self):
+            return NotImplemented
+        return self.public_bytes() == other.public_bytes()
+
+    def __hash__(self) -> int:
+        return hash(self.public_bytes())
+
+
+class KeyedObject(SignedObject):
+    """An object with a key."""
+
+    @property
+    def public_key_bytes(self) -> bytes:
+        """The whole SubjectPublicKeyInfo, with its header: what key pins hash."""
+        return self._element("key_info")
+
+    @property
+    def key_bits(self) -> bytes:
+        """The octets of the key itself: of the BIT STRING, without the count of unused bits."""
+        return self._window("key_bits")
+
+    @property
+    def key_algorithm(self) -> ObjectIdentifier:
+        """The algorithm of the key."""
+        return self._oid("key_algorithm")
+
+    @property
+    def public_key_algorithm_oid(self) -> ObjectIdentifier:
+        """The algorithm of the key, as `key_algorithm`."""
+        return self.key_algorithm
+
+    @property
+    def key_size(self) -> Optional[int]:
+        """The bits of an RSA modulus, or of a coordinate of a point; None where it isn't known, as of Ed25519."""
+        return self._number("key_size") or None
+
+    def public_key(self) -> PublicKey:
+        """The kind of the key, its size and its curve."""
+        told = self._report["key"]
+        return PublicKey(told["kind"], told["size"], told["curve"])
+
+    @kept
+    def rsa_public_numbers(self) -> Optional[RSAPublicNumbers]:
+        """The numbers of an RSA key; None where the key is another. Refused where it ought to be RSA, and isn't."""
+        if self.key_algorithm not in (PublicKeyAlgorithmOID.RSAES_PKCS1_v1_5, PublicKeyAlgorithmOID.RSASSA_PSS):
+            return None
+        buffer = Buffer(self.key_bits)
+        found, _ = _RSA_KEYS.ask(
+            lambda memory: lib.rtv_read_rsa_key(buffer.address, buffer.length, memory.head, memory.second)
+        )
+        modulus, exponent = buffer.window(found[0], found[1]), buffer.window(found[2], found[3])
+        return RSAPublicNumbers(n=signed_number(modulus), e=signed_number(exponent))

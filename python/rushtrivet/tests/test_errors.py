@@ -1,0 +1,102 @@
+"""Refusals and other errors."""
+
+import os
+import pickle
+import subprocess
+import sys
+import unittest
+from pathlib import Path
+
+import rushtrivet as x509
+from rushtrivet import Status, _library
+
+from .inputs import certificate, der
+
+LOADS = (x509.load_certificate, x509.load_crl, x509.load_csr, x509.Index, x509.Name)
+
+
+class Refusals(unittest.TestCase):
+    def test_empty(self) -> None:
+        for load in LOADS:
+            for nothing in (b"", bytearray(), memoryview(b"")):
+                with self.assertRaises(x509.Refused) as caught:
+                    load(nothing)
+                self.assertEqual(caught.exception.status, Status.INCOMPLETE)
+                self.assertEqual((caught.exception.word, caught.exception.at), ("incomplete", 0))
+
+    def test_place(self) -> None:
+        data = certificate(end=der(23, b"24"))
+        with self.assertRaises(x509.Refused) as caught:
+            x509.load_certificate(data)
+        refused = caught.exception
+        self.assertIsInstance(refused, ValueError)
+        self.assertEqual(refused.status, Status.INVALID_DATE)
+        self.assertEqual(refused.at, data.index(der(23, b"24")))
+        self.assertEqual(str(refused), f"{refused.word}, at octet {refused.at}")
+
+    def test_words(self) -> None:
+        words = [_library.word(status) for status in Status]
+        self.assertEqual(len(set(words)), len(words))
+        self.assertTrue(all(words))
+
+    def test_strict(self) -> None:
+        lenient = certificate(serial=b"\0\0\1")
+        self.assertEqual(x509.load_certificate(lenient).serial_number, 1)
+        with self.assertRaises(x509.Refused):
+            x509.load_certificate(lenient, strict=True)
+        self.assertEqual(x509.load_certificate(certificate(), strict=True).serial_number, 1)
+
+    def test_pickle(self) -> None:
+        refused = x509.Refused(33, "invalid length", 7)
+        again = pickle.loads(pickle.dumps(refused))
+        self.assertEqual((again.status, again.word, again.at), (33, "invalid length", 7))
+        self.assertEqual(str(x509.Refused(33, "invalid length", None)), "invalid length")
+        missing = x509.ExtensionNotFound("none", x509.ExtensionOID.KEY_USAGE)
+        self.assertEqual(pickle.loads(pickle.dumps(missing)).oid, missing.oid)
+
+    def test_memory(self) -> None:
+        with self.assertRaises(MemoryError):
+            _library.refuse(2, 0)
+        with self.assertRaises(MemoryError):
+            _library.refuse(2)
+        with self.assertRaises(x509.Refused) as caught:
+            _library.refuse(99, 5)
+        self.assertEqual((caught.exception.status, caught.exception.at), (99, 5))
+        with self.assertRaises(x509.Refused) as caught:
+            _library.refuse(99)
+        self.assertIsNone(caught.exception.at)
+
+    def test_types(self) -> None:
+        for load in LOADS:
+            for wrong in ("text", 5, None, [1]):
+                with self.assertRaises(TypeError):
+                    load(wrong)  # type: ignore[arg-type]
+
+    def test_windows(self) -> None:
+        buffer = _library.Buffer(b"abc")
+        self.assertEqual(buffer.window(1, 0), b"")
+        self.assertEqual(buffer.window(buffer.address + 1, 2), b"bc")
+        for at in (1, buffer.address - 1, buffer.address + 3):
+            with self.assertRaises(RuntimeError):
+                buffer.window(at, 1)
+
+
+class Library(unittest.TestCase):
+    def test_version(self) -> None:
+        self.assertRegex(x509.library_version, r"^0\.1\.\d+$")
+
+    def test_other_files(self) -> None:
+        for file in ("no/such/file.so", __file__):
+            with self.assertRaises(ImportError):
+                _library.load(file)
+
+    def test_environment(self) -> None:
+        source = str(Path(x509.__file__).parents[1])
+        told = subprocess.run(
+            [sys.executable, "-c", "import rushtrivet"],
+            env={**os.environ, "RUSHTRIVET_LIBRARY": "no/such/file.so", "PYTHONPATH": source},
+            capture_output=True,
+            text=True,
+        )
+        self.assertEqual(told.returncode, 1)
+        self.assertIn("ImportError", told.stderr)
