@@ -255,6 +255,20 @@ static void every_value(const uint8_t *it, size_t length) {
     key_info(it, length);
 }
 
+/* The path to octets of each kind of object, whatever stands there: the whole text's length with any room, and none of an unknown kind. */
+static void paths(const uint8_t *der, size_t length) {
+    for (uint32_t kind = 0; kind < 5; kind++)
+        for (size_t octet = 0; octet < length + 3; octet = 2 * octet + 1) {
+            uint8_t text[64] = { 0 };
+            size_t whole = 77777, again = 77777;
+            rtv_status status = rtv_field_path(der, length, kind, octet, text, sizeof text, &whole);
+            must(status == (kind % 4 ? RTV_OK : RTV_NOT_FOUND), "a kind that is none");
+            must(rtv_field_path(der, length, kind, octet, text, 0, &again) == status && again == whole, "another path with another room");
+            must((status == RTV_OK) == (whole != 77777), "a result of a refusal");
+            must(strlen((char *)text) == (status != RTV_OK ? 0 : whole < sizeof text ? whole : sizeof text - 1), "a path of another length");
+        }
+}
+
 static void certificate(const uint8_t *der, size_t length) {
     rtv_extension rows[ROOM];
     bool taken[2] = { false, false };
@@ -285,6 +299,42 @@ static void certificate(const uint8_t *der, size_t length) {
     must(taken[0] || !taken[1], "strict takes what loose refuses");
 }
 
+/* The extensions of the first entries that have a row: as many as their rows say, and in order. */
+static void entry_extensions(const uint8_t *der, size_t length, size_t room, const rtv_revoked *revoked, size_t entries) {
+    rtv_entry_extension rows[ROOM];
+    size_t at = 9, count = 0, next = 0;
+    rtv_init_entry_extensions(rows, ROOM);
+    must(rtv_read_entry_extensions(der, length, rows, room, &count, &at) == RTV_OK && at == 9, "a list that is none now");
+    for (size_t entry = 0; entry < entries && entry < room; entry++)
+        for (size_t k = 0; k < revoked[entry].extension_count; k++, next++) {
+            if (next >= room) return;
+            must(next < count && rows[next].entry == entry && rows[next].critical < 2, "an extension of another entry");
+            within(der, length, rows[next].oid);
+            within(der, length, rows[next].value);
+            if (room == ROOM) every_value(rows[next].value.at, rows[next].value.length);
+        }
+    must(entries > room || next == count, "another count of extensions");
+}
+
+/* The entries of a list one by one: as many as it counts, the first as its rows have them, and nothing behind the last. */
+static void entries(const uint8_t *der, size_t length, const rtv_revoked *revoked, size_t rows, size_t all) {
+    rtv_bytes left = RTV_NO_BYTES;
+    size_t at = 9, count = 0;
+    must(rtv_read_entries(der, length, &left, &count, &at) == RTV_OK && at == 9 && count == all, "entries of another list");
+    for (size_t k = 0; k < count; k++) {
+        rtv_revoked row = RTV_REVOKED_INIT;
+        rtv_extension extensions[2];
+        rtv_init_extensions(extensions, 2);
+        within(der, length, left);
+        must(rtv_read_entry(left.at, left.length, &row, extensions, 2, &left, &at) == RTV_OK && at == 9, "an entry that is none");
+        if (k < rows)
+            must(row.serial.at == revoked[k].serial.at && row.revocation_date == revoked[k].revocation_date && row.reason == revoked[k].reason
+                     && row.extension_count == revoked[k].extension_count, "another entry");
+        for (size_t e = 0; e < row.extension_count && e < 2; e++) within(der, length, extensions[e].value);
+    }
+    must(left.length == 0, "octets behind the last entry");
+}
+
 static void list(const uint8_t *der, size_t length) {
     rtv_revoked revoked[ROOM];
     rtv_extension rows[ROOM];
@@ -310,6 +360,8 @@ static void list(const uint8_t *der, size_t length) {
                  "another position");
         }
         for (size_t k = 0; k < it.revoked_count && k < room; k++) within(der, length, revoked[k].serial);
+        entry_extensions(der, length, room, revoked, it.revoked_count);
+        if (room == ROOM) entries(der, length, revoked, ROOM, it.revoked_count);
         for (size_t k = 0; k < it.extension_count && k < room; k++) every_value(rows[k].value.at, rows[k].value.length);
     }
 }
@@ -330,6 +382,7 @@ static void request(const uint8_t *der, size_t length) {
 
 static void all(const uint8_t *der, size_t length) {
     certificate(der, length);
+    paths(der, length);
     list(der, length);
     request(der, length);
     report(der, length);

@@ -26,6 +26,15 @@ static void text(const char *name, rtv_status status, const uint8_t *it, size_t 
     putchar('\n');
 }
 
+/* The names of the fields that lead to where a window begins. */
+static void path(const uint8_t *der, size_t length, uint32_t kind, rtv_bytes window) {
+    uint8_t room[128];
+    size_t written = 0, at = rtv_offset(der, window);
+    rtv_status status = rtv_field_path(der, length, kind, at, room, sizeof room, &written);
+    number("octet", at);
+    text("path", status, room, written, sizeof room);
+}
+
 static bool told(const char *what, rtv_status status, size_t at) {
     uint8_t words[64];
     if (status == RTV_OK) return printf("%s\n", what) > 0;
@@ -327,10 +336,15 @@ static void certificate(const uint8_t *der, size_t length) {
     name("subject", it.subject);
     key(it.key_info, it.key_algorithm, it.key_bits, it.key_size);
     oid("signature_algorithm", it.signature_algorithm);
+    number("signature_kind", rtv_signature_kind(it.signature_algorithm.at, it.signature_algorithm.length));
     octets("signature", it.signature);
     time_of("not_before", it.not_before);
     time_of("not_after", it.not_after);
     number("version", it.version);
+    rtv_bytes fields[] = { it.whole, it.signed_part, it.serial, it.issuer, it.subject, it.key_info, it.key_algorithm, it.key_bits, it.signature_algorithm,
+                           it.signature };
+    for (size_t k = 0; k < sizeof fields / sizeof *fields; k++) path(der, length, RTV_A_CERTIFICATE, fields[k]);
+    for (size_t k = 0; k < it.extension_count && k < ROOM; k++) path(der, length, RTV_A_CERTIFICATE, rows[k].value);
     extensions(rows, it.extension_count);
     status = rtv_read_certificate(der, length, true, true, &it, rows, ROOM, &at);
     told("certificate, strict", status, at);
@@ -358,10 +372,49 @@ static void look_ups(const uint8_t *der, size_t length, const rtv_revoked *revok
             number("scanned", status);
             number("at", first);
             time_of("revocation_date", found.revocation_date);
+            number("has_reason", found.has_reason);
+            number("reason", found.reason);
         }
         number("absent", rtv_index_find(rows, all, (const uint8_t *)"\x7f\x01\x02", 3, &first));
     }
     free(rows);
+}
+
+static void entry_extensions(const uint8_t *der, size_t length) {
+    rtv_entry_extension rows[ROOM];
+    size_t at = 0, count = 0;
+    rtv_init_entry_extensions(rows, ROOM);
+    rtv_status status = rtv_read_entry_extensions(der, length, rows, ROOM, &count, &at);
+    if (!told("extensions of entries", status, at)) return;
+    number("count", count);
+    for (size_t k = 0; k < count && k < ROOM; k++) {
+        number("entry", rows[k].entry);
+        oid("oid", rows[k].oid);
+        number("critical", rows[k].critical);
+        value(rows[k].value);
+    }
+}
+
+/* The entries one by one. */
+static void entries(const uint8_t *der, size_t length) {
+    rtv_bytes left = RTV_NO_BYTES;
+    size_t at = 0, count = 0;
+    if (!told("entries", rtv_read_entries(der, length, &left, &count, &at), at)) return;
+    octets("entries", left);
+    number("count", count);
+    for (size_t k = 0; k < ROOM && left.length > 0; k++) {
+        rtv_revoked row = RTV_REVOKED_INIT;
+        rtv_extension rows[ROOM];
+        rtv_init_extensions(rows, ROOM);
+        if (!told("entry", rtv_read_entry(left.at, left.length, &row, rows, ROOM, &left, &at), at)) return;
+        octets("serial", row.serial);
+        time_of("revocation_date", row.revocation_date);
+        number("has_reason", row.has_reason);
+        number("reason", row.reason);
+        number("extension_count", row.extension_count);
+        for (size_t e = 0; e < row.extension_count && e < ROOM; e++) octets("oid", rows[e].oid), octets("value", rows[e].value);
+        octets("behind", left);
+    }
 }
 
 static void list(const uint8_t *der, size_t length) {
@@ -379,6 +432,7 @@ static void list(const uint8_t *der, size_t length) {
     name("issuer", it.issuer);
     oid("signed_algorithm", it.signed_algorithm);
     oid("signature_algorithm", it.signature_algorithm);
+    number("signature_kind", rtv_signature_kind(it.signature_algorithm.at, it.signature_algorithm.length));
     octets("signature", it.signature);
     time_of("this_update", it.this_update);
     number("has_next_update", it.has_next_update);
@@ -390,7 +444,15 @@ static void list(const uint8_t *der, size_t length) {
         octets("serial", revoked[k].serial);
         time_of("revocation_date", revoked[k].revocation_date);
         number("extension_count", revoked[k].extension_count);
+        number("has_reason", revoked[k].has_reason);
+        number("reason", revoked[k].reason);
     }
+    rtv_bytes fields[] = { it.signed_part, it.issuer, it.signed_algorithm, it.signature_algorithm, it.signature };
+    for (size_t k = 0; k < sizeof fields / sizeof *fields; k++) path(der, length, RTV_A_LIST, fields[k]);
+    for (size_t k = 0; k < it.revoked_count && k < ROOM; k++) path(der, length, RTV_A_LIST, revoked[k].serial);
+    for (size_t k = 0; k < it.extension_count && k < ROOM; k++) path(der, length, RTV_A_LIST, rows[k].oid);
+    entry_extensions(der, length);
+    entries(der, length);
     extensions(rows, it.extension_count);
     if (it.revoked_count <= ROOM) look_ups(der, length, revoked, it.revoked_count);
     status = rtv_read_list(der, length, true, &it, revoked, ROOM, rows, ROOM, &at);
@@ -410,8 +472,12 @@ static void request(const uint8_t *der, size_t length) {
     name("subject", it.subject);
     key(it.key_info, it.key_algorithm, it.key_bits, it.key_size);
     oid("signature_algorithm", it.signature_algorithm);
+    number("signature_kind", rtv_signature_kind(it.signature_algorithm.at, it.signature_algorithm.length));
     octets("signature", it.signature);
     number("version", it.version);
+    rtv_bytes fields[] = { it.signed_part, it.subject, it.key_info, it.key_bits, it.signature_algorithm, it.signature };
+    for (size_t k = 0; k < sizeof fields / sizeof *fields; k++) path(der, length, RTV_A_REQUEST, fields[k]);
+    for (size_t k = 0; k < it.attribute_count && k < ROOM; k++) path(der, length, RTV_A_REQUEST, rows[k].value);
     number("attribute_count", it.attribute_count);
     for (size_t k = 0; k < it.attribute_count && k < ROOM; k++) {
         oid("oid", rows[k].oid);

@@ -227,6 +227,10 @@ static rtv_status request(call *it) {
     return status;
 }
 
+static rtv_status entry_extensions(call *it) {
+    return rtv_read_entry_extensions(it->der, it->length, (void *)it->rows[0].octets, it->room[0], &it->count[0], &it->at);
+}
+
 static rtv_status name(call *it) {
     return rtv_read_name(it->der, it->length, (void *)it->rows[0].octets, it->room[0], &it->count[0], &it->at);
 }
@@ -293,8 +297,9 @@ static rtv_status rsa_key(call *it) { return rtv_read_rsa_key(it->der, it->lengt
 
 static const reader a_certificate = { "certificate", certificate, KIND(rtv_certificate, 11, version), { KIND(rtv_extension, 2, critical), NONE } };
 static const reader a_list = { "list", list, KIND(rtv_list, 7, has_version),
-                               { KIND(rtv_revoked, 1, extension_count), KIND(rtv_extension, 2, critical) } };
+                               { KIND(rtv_revoked, 1, has_reason), KIND(rtv_extension, 2, critical) } };
 static const reader a_request = { "request", request, KIND(rtv_request, 9, version), { KIND(rtv_request_attribute, 2, value), NONE } };
+static const reader some_entry_extensions = { "extensions of entries", entry_extensions, NONE, { KIND(rtv_entry_extension, 2, critical), NONE } };
 static const reader a_name = { "name", name, NONE, { KIND(rtv_attribute, 2, tag), NONE } };
 static const reader some_names = { "general names", general_names, NONE, { GENERAL_NAME, NONE } };
 static const reader some_policies = { "policies", policies, NONE, { KIND(rtv_policy, 1, qualifier_count), NONE } };
@@ -482,7 +487,7 @@ static rtv_bytes unsigned_number(rtv_bytes it) {
 
 /* A serial, by the scan and by the index, where there is one; and by the rows themselves, where all of them are there. */
 static void look_up(call *it, const rtv_index_row *index, size_t entries, rtv_bytes serial) {
-    static const kind row_kind = KIND(rtv_revoked, 1, extension_count);
+    static const kind row_kind = KIND(rtv_revoked, 1, has_reason);
     const size_t before = (size_t)MARK << 40;
     memory found;
     size_t scanned = before, indexed = before, at = before, expected = 0;
@@ -528,6 +533,38 @@ static void look_at_index(call *it) {
     for (size_t length = 0; length < 3; length++) look_up(it, index, entries, (rtv_bytes){ it->der + it->length - length, length });
 }
 
+/* The extensions of entries: those that the rows of the entries count, in order. */
+static void look_at_entry_extensions(const call *it) {
+    static call found;
+    const rtv_revoked *entries = (const void *)it->rows[0].octets;
+    found = (call){ .der = it->der, .length = it->length };
+    must(ask_with_rooms(&some_entry_extensions, &found) == RTV_OK, "extensions of entries", "a list that is none now");
+    const rtv_entry_extension *rows = (const void *)found.rows[0].octets;
+    size_t next = 0;
+    for (size_t entry = 0; entry < it->count[0] && entry < ROOM; entry++) {
+        must(entries[entry].has_reason < 2 && (entries[entry].has_reason || !entries[entry].reason), "reason", "a reason that isn't there");
+        for (size_t k = 0; k < entries[entry].extension_count; k++, next++)
+            if (next < ROOM) {
+                must(next < found.count[0] && rows[next].entry == entry && rows[next].critical < 2, "extensions of entries", "another entry");
+                look_at_value(rows[next].value.at, rows[next].value.length);
+            }
+    }
+    if (it->count[0] <= ROOM) must(next == found.count[0], "extensions of entries", "another count");
+}
+
+/* The path to the octet of a refusal: a text without an octet 0, of which the fronts are written where there is less room. */
+static void look_at_path(const uint8_t *der, size_t length, uint32_t kind, size_t octet) {
+    uint8_t text[512], less[8];
+    size_t whole = 0, again = 0;
+    memset(text, MARK, sizeof text);
+    memset(less, MARK, sizeof less);
+    must(rtv_field_path(der, length, kind, octet, text, sizeof text, &whole) == RTV_OK && whole < sizeof text, "path", "another status, or a text that long");
+    must(text[whole] == 0 && !memchr(text, 0, whole) && text[whole + 1] == MARK, "path", "a text that is none");
+    must(rtv_field_path(der, length, kind, octet, less, 4, &again) == RTV_OK && again == whole, "path", "another path with another room");
+    must(memcmp(less, text, whole < 3 ? whole : 3) == 0 && less[whole < 3 ? whole : 3] == 0 && less[4] == MARK, "path", "another front");
+    tell("path", RTV_OK, whole, octet);
+}
+
 /* The line of each kind: written where a reader takes the object, in its way, and else it says why none does. */
 static void look_at_reports(const uint8_t *der, size_t length, bool taken[3][2]) {
     static uint8_t line[MOST], less[256];
@@ -568,11 +605,13 @@ int LLVMFuzzerTestOneInput(const uint8_t *data, size_t length) {
     if (taken[1][0]) {
         look_at_index(&it);
         look_at_rows(&it.rows[1], it.count[1]);
+        look_at_entry_extensions(&it);
     } else {
         const size_t before = (size_t)MARK << 40;
         rtv_index_row row = RTV_INDEX_ROW_INIT;
         rtv_revoked entry = RTV_REVOKED_INIT;
         size_t count = before, at = before;
+        if (it.at <= length) look_at_path(der, length, RTV_A_LIST, it.at);
         rtv_status status = rtv_index_build(der, length, &row, 1, &count, &at);
         look_at_status("index", status, at, before, length);
         must(status != RTV_OK && count == before && at == it.at, "index", "another refusal than the list's");

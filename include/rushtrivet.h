@@ -39,7 +39,7 @@ extern "C" {
 
 /* ---- version: ten thousand for the first number, a hundred for the second, one for the third */
 
-#define RTV_VERSION 100 /* 0.1.0 */
+#define RTV_VERSION 200 /* 0.2.0 */
 
 /* The version of the library that is linked. */
 uint32_t rtv_version(void);
@@ -158,15 +158,38 @@ typedef struct rtv_revoked {
     rtv_bytes serial;           /* contents of the INTEGER */
     int64_t revocation_date;
     size_t extension_count;     /* extensions of the entry that can't be read count as none */
+    uint32_t reason;            /* why, as rtv_read_reason_code(); 0 where has_reason is */
+    uint32_t has_reason;        /* 0 where the first extension of that type can't be read, or there is none; else 1 */
 } rtv_revoked;
 
-#define RTV_REVOKED_INIT { RTV_NO_BYTES, 0, 0 }
+#define RTV_REVOKED_INIT { RTV_NO_BYTES, 0, 0, 0, 0 }
 
 /* Reads the list at the front of the buffer. The first entries and the first extensions of the list are written, as far as there is
  * room; list->revoked_count and list->extension_count say how many there are. strict: as of a certificate. */
 rtv_status rtv_read_list(const uint8_t *der, size_t length, bool strict, rtv_list *list,
                          rtv_revoked *revoked, size_t revoked_room, rtv_extension *extensions, size_t extension_room,
                          size_t *at);
+
+typedef struct rtv_entry_extension {
+    rtv_bytes oid;              /* contents of the identifier */
+    rtv_bytes value;            /* contents of the OCTET STRING */
+    size_t entry;               /* the position of its entry on the list, from 0 on */
+    uint32_t critical;          /* 0 or 1 */
+} rtv_entry_extension;
+
+/* Reads the list at the front of the buffer. The first extensions of its entries are written, entry by entry and in order, as far as there
+ * is room; *count is that of all. Extensions of an entry that can't be read are none. */
+rtv_status rtv_read_entry_extensions(const uint8_t *der, size_t length, rtv_entry_extension *rows, size_t room, size_t *count,
+                                     size_t *at);
+
+/* Lists of any length. Reads the list at the front of the buffer whole and keeps none of its entries: *entries are the octets in which they
+ * stand, one behind another and nothing behind the last, *count is how many there are. No memory grows with the list. */
+rtv_status rtv_read_entries(const uint8_t *der, size_t length, rtv_bytes *entries, size_t *count, size_t *at);
+
+/* Reads the entry at the front of the buffer: first of *entries, then of what stands *behind, until nothing is left. The first `room`
+ * extensions of the entry are written; row->extension_count says how many there are. */
+rtv_status rtv_read_entry(const uint8_t *der, size_t length, rtv_revoked *row, rtv_extension *extensions, size_t room,
+                          rtv_bytes *behind, size_t *at);
 
 /* Reads the list at the front of the buffer, and looks the serial up on it, as an unsigned number: writes the first such entry and its
  * position among all entries, from 0 on, or returns RTV_NOT_FOUND. */
@@ -432,6 +455,10 @@ typedef struct rtv_key_info {
  * end before the element does (above): then it is refused here. */
 rtv_status rtv_read_key_info(const uint8_t *key_info, size_t length, rtv_key_info *info, size_t *at);
 
+/* The kind of signature that an algorithm makes, by the contents of its identifier, as signature_algorithm of a certificate, a list or a
+ * request: 1 RSA, 2 RSASSA-PSS, 3 RSAES-OAEP, 4 DSA, 5 ECDSA, 6 Ed25519 (RFC 4055, RFC 3279, RFC 8410); 0 where it is none of these. */
+uint32_t rtv_signature_kind(const uint8_t *oid, size_t length);
+
 /* ---- keys, from the octets of their bits */
 
 typedef struct rtv_rsa_key {
@@ -480,6 +507,12 @@ enum { RTV_ANY = 0, RTV_A_CERTIFICATE = 1, RTV_A_LIST = 2, RTV_A_REQUEST = 3 };
  * too small for the whole line, its front is written, which is no JSON. */
 rtv_status rtv_json(const uint8_t *der, size_t length, uint32_t kind, bool strict, uint8_t *text, size_t room, size_t *text_length);
 
+/* The names of the fields that lead to an octet of the object at the front of the buffer, as "tbsCertificate.validity.notAfter" or
+ * "tbsCertificate.extensions[3].extnValue": what stands at *at of a refusal, as far as headers can be read up to there. kind:
+ * RTV_A_CERTIFICATE, RTV_A_LIST or RTV_A_REQUEST; RTV_NOT_FOUND for another. Members of a list are numbered from 0. The text is empty where
+ * the octet lies in no member of the object. */
+rtv_status rtv_field_path(const uint8_t *der, size_t length, uint32_t kind, size_t octet, uint8_t *text, size_t room, size_t *text_length);
+
 /* ---- rows that hold some valid value */
 
 static inline void rtv_init_bytes(rtv_bytes *rows, size_t count) {
@@ -494,6 +527,11 @@ static inline void rtv_init_extensions(rtv_extension *rows, size_t count) {
 
 static inline void rtv_init_revoked(rtv_revoked *rows, size_t count) {
     static const rtv_revoked none = RTV_REVOKED_INIT;
+    for (size_t k = 0; k < count; k++) rows[k] = none;
+}
+
+static inline void rtv_init_entry_extensions(rtv_entry_extension *rows, size_t count) {
+    static const rtv_entry_extension none = { RTV_NO_BYTES, RTV_NO_BYTES, 0, 0 };
     for (size_t k = 0; k < count; k++) rows[k] = none;
 }
 

@@ -30,11 +30,11 @@ create function x509_hosts(octets bytea) returns setof text
 create function x509_hosts_array(octets bytea) returns text[]
     language c immutable strict parallel safe cost 80 as 'MODULE_PATHNAME';
 create function x509_key_kind(octets bytea) returns text
-    language c immutable strict parallel safe cost 500 as 'MODULE_PATHNAME';
+    language c immutable strict parallel safe cost 60 as 'MODULE_PATHNAME';
 create function x509_key_bits(octets bytea) returns integer
     language c immutable strict parallel safe cost 50 as 'MODULE_PATHNAME';
 create function x509_signature_hash(octets bytea) returns text
-    language c immutable strict parallel safe cost 500 as 'MODULE_PATHNAME';
+    language c immutable strict parallel safe cost 60 as 'MODULE_PATHNAME';
 create function x509_sha256(octets bytea) returns bytea
     language c immutable strict parallel safe cost 100 as 'MODULE_PATHNAME';
 comment on function x509_sha256(bytea) is 'of the certificate, without what stands behind it';
@@ -51,8 +51,8 @@ create function x509_is_ca(octets bytea) returns boolean
 create function x509_scts(octets bytea, out log_id bytea, out at timestamptz) returns setof record
     language c immutable strict parallel safe cost 80 rows 3 as 'MODULE_PATHNAME';
 create function x509_messages(octets bytea, out level text, out message text) returns setof record
-    language c immutable strict parallel safe cost 500 rows 2 as 'MODULE_PATHNAME';
-comment on function x509_messages(bytea) is 'what the validator of the structure tells: warnings, then errors';
+    language c immutable strict parallel safe cost 100 rows 2 as 'MODULE_PATHNAME';
+comment on function x509_messages(bytea) is 'what the validators tell of the structure and of the extensions, in their order';
 
 create function x509_crl_entries(octets bytea, out serial bytea, out revoked_at timestamptz, out reason text) returns setof record
     language c immutable strict parallel safe cost 1000 rows 1000 as 'MODULE_PATHNAME';

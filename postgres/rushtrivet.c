@@ -32,8 +32,8 @@ PG_MODULE_MAGIC;
 enum
 {
 	FIRST_EXTENSIONS = 24,		/* read at once; where there are more, a second time */
-	KNOWN_REASONS = 16,
-	KNOWN_OCTETS = 48
+	KNOWN_WORDS = 16,
+	KNOWN_OCTETS = 16
 };
 
 /* a text is a value of the server's: below 1 GB */
@@ -49,7 +49,9 @@ enum
 
 static const uint8_t subject_alternative_name[] = {0x55, 0x1d, 0x11};	/* 2.5.29.17 */
 static const uint8_t basic_constraints[] = {0x55, 0x1d, 0x13};	/* 2.5.29.19 */
+static const uint8_t ec_public_key[] = {0x2a, 0x86, 0x48, 0xce, 0x3d, 0x02, 0x01};	/* 1.2.840.10045.2.1 */
 static const uint8_t extended_key_usage[] = {0x55, 0x1d, 0x25};	/* 2.5.29.37 */
+static const uint8_t rsassa_pss[] = {0x2a, 0x86, 0x48, 0x86, 0xf7, 0x0d, 0x01, 0x01, 0x0a};	/* 1.2.840.113549.1.1.10 */
 static const uint8_t timestamp_list[] = {0x2b, 0x06, 0x01, 0x04, 0x01, 0xd6, 0x79, 0x02, 0x04, 0x02};	/* 1.3.6.1.4.1.11129.2.4.2 */
 
 /* ---- octets and statuses */
@@ -186,6 +188,61 @@ text_of(const uint8_t *at, size_t length)
 	return value;
 }
 
+/* What a call writes of octets as a text. */
+typedef struct
+{
+	uint8_t	   *at;
+	size_t		length;
+	uint8_t		small[512];
+} Told;
+
+typedef rtv_status (*Tells) (rtv_bytes octets, uint8_t *text, size_t room, size_t *length);
+
+/* False where the octets are refused. */
+static bool
+tell(Told *told, Tells call, rtv_bytes octets)
+{
+	told->at = told->small;
+	told->length = 0;
+	if (!taken(call(octets, told->at, sizeof told->small, &told->length)))
+		return false;
+	if (told->length < sizeof told->small)
+		return true;
+	told->at = huge(told->length, 1);
+	return taken(call(octets, told->at, told->length + 1, &told->length));
+}
+
+static rtv_status
+tell_name(rtv_bytes name, uint8_t *text, size_t room, size_t *length)
+{
+	size_t		at = 0;
+
+	return rtv_name_text(name.at, name.length, text, room, length, &at);
+}
+
+static rtv_status
+tell_oid(rtv_bytes oid, uint8_t *text, size_t room, size_t *length)
+{
+	return rtv_oid_text(oid.at, oid.length, text, room, length);
+}
+
+static rtv_status
+tell_messages(rtv_bytes octets, uint8_t *text, size_t room, size_t *length)
+{
+	uint32_t	sound = 0;
+	size_t		at = 0;
+
+	return rtv_validate(octets.at, octets.length, text, room, length, &sound, &at);
+}
+
+static text *
+oid_text(rtv_bytes oid)
+{
+	Told		told;
+
+	return tell(&told, tell_oid, oid) ? text_of(told.at, told.length) : NULL;
+}
+
 /* ---- the report's line (docs/REPORT.md): for what the library has no call of its own for */
 
 typedef struct
@@ -206,6 +263,7 @@ line_of(rtv_bytes octets, uint32_t kind, size_t most)
 		rtv_status	status;
 
 		line.at = huge(room, 1);
+		line.length = 0;
 		status = rtv_json(octets.at, octets.length, kind, false, line.at, room, &line.length);
 		if (status != RTV_NOT_FOUND)
 			taken(status);
@@ -263,13 +321,6 @@ next_value(const uint8_t *at, const uint8_t *end)
 	return at < end && *at == ',' ? at + 1 : NULL;
 }
 
-/* The first item of an array, or NULL. */
-static const uint8_t *
-first_item(const uint8_t *at, const uint8_t *end)
-{
-	return at && at + 1 < end && *at == '[' && at[1] != ']' ? at + 1 : NULL;
-}
-
 /* The value of a member of the object that begins here, or NULL. */
 static const uint8_t *
 member(const uint8_t *at, const uint8_t *end, const char *key)
@@ -289,14 +340,6 @@ member(const uint8_t *at, const uint8_t *end, const char *key)
 		at = value + 1;
 	}
 	return NULL;
-}
-
-static bool
-is_string(const uint8_t *at, const uint8_t *end, const char *text)
-{
-	size_t		length = strlen(text);
-
-	return at && *at == '"' && (size_t) (behind_string(at, end) - at) == length + 2 && memcmp(at + 1, text, length) == 0;
 }
 
 /* The text that a string spells; NULL where it is none. */
@@ -346,6 +389,17 @@ string_text(const uint8_t *at, const uint8_t *end)
 	}
 	value = text_of(octets, length);
 	pfree(octets);
+	return value;
+}
+
+/* The text of a member of a member of a certificate's line; NULL where it is none. */
+static text *
+text_in_line(rtv_bytes octets, const char *part, const char *key)
+{
+	Line		line = line_of(octets, RTV_A_CERTIFICATE, MaxAllocHugeSize - 1);
+	text	   *value = string_text(member(member(line.at, line.end, part), line.end, key), line.end);
+
+	pfree(line.at);
 	return value;
 }
 
@@ -424,9 +478,9 @@ typedef struct
 	rtv_extension first[FIRST_EXTENSIONS];
 } Certificate;
 
-/* False where it is none. */
+/* The certificate with the first of its extensions, as far as there is room, at most FIRST_EXTENSIONS. False where it is none. */
 static bool
-read_certificate(FunctionCallInfo fcinfo, Certificate *c)
+read_front(FunctionCallInfo fcinfo, Certificate *c, size_t room)
 {
 	static const rtv_certificate none = RTV_CERTIFICATE_INIT;
 	size_t		at = 0;
@@ -434,14 +488,32 @@ read_certificate(FunctionCallInfo fcinfo, Certificate *c)
 	c->octets = octets_of(PG_GETARG_BYTEA_PP(0));
 	c->it = none;
 	c->extensions = c->first;
-	rtv_init_extensions(c->first, FIRST_EXTENSIONS);
-	if (!taken(rtv_read_certificate(c->octets.at, c->octets.length, false, false, &c->it, c->first, FIRST_EXTENSIONS, &at)))
+	rtv_init_extensions(c->first, room);
+	return taken(rtv_read_certificate(c->octets.at, c->octets.length, false, false, &c->it, c->first, room, &at));
+}
+
+/* The certificate without its extensions. */
+static bool
+read_fields(FunctionCallInfo fcinfo, Certificate *c)
+{
+	return read_front(fcinfo, c, 0);
+}
+
+/* The certificate with all its extensions. */
+static bool
+read_certificate(FunctionCallInfo fcinfo, Certificate *c)
+{
+	size_t		count,
+				at = 0;
+
+	if (!read_front(fcinfo, c, FIRST_EXTENSIONS))
 		return false;
-	if (c->it.extension_count <= FIRST_EXTENSIONS)
+	count = c->it.extension_count;
+	if (count <= FIRST_EXTENSIONS)
 		return true;
-	c->extensions = huge(c->it.extension_count, sizeof(rtv_extension));
-	rtv_init_extensions(c->extensions, c->it.extension_count);
-	return taken(rtv_read_certificate(c->octets.at, c->octets.length, false, false, &c->it, c->extensions, c->it.extension_count, &at));
+	c->extensions = huge(count, sizeof(rtv_extension));
+	rtv_init_extensions(c->extensions, count);
+	return taken(rtv_read_certificate(c->octets.at, c->octets.length, false, false, &c->it, c->extensions, count, &at));
 }
 
 /* The only extension with this identifier; of two neither. */
@@ -467,7 +539,7 @@ x509_is_certificate(PG_FUNCTION_ARGS)
 {
 	Certificate c;
 
-	PG_RETURN_BOOL(read_certificate(fcinfo, &c));
+	PG_RETURN_BOOL(read_fields(fcinfo, &c));
 }
 
 PG_FUNCTION_INFO_V1(x509_refusal);
@@ -489,57 +561,44 @@ x509_refusal(PG_FUNCTION_ARGS)
 	PG_RETURN_TEXT_P(cstring_to_text(psprintf("%s at octet %zu", (char *) word, at)));
 }
 
-/* The name's text as the report has it, where octets that are no text are shown in hex; rtv_name_text() says of such names only that they
- * can't be shown, by a text that begins as no name does. */
-static text *
-name_to_text(const Certificate *c, rtv_bytes name, const char *key)
+/* A text, or NULL. */
+static Datum
+text_or_null(FunctionCallInfo fcinfo, text *value)
+{
+	if (!value)
+		PG_RETURN_NULL();
+	PG_RETURN_TEXT_P(value);
+}
+
+/* A name's text as the report has it, where octets that are no text are shown in hex; rtv_name_text() says of such names only that they
+ * can't be shown, by a text that begins as no name does. `field` is the name's place in the struct, `key` that in the line. */
+static Datum
+name_column(FunctionCallInfo fcinfo, size_t field, const char *key)
 {
 	static const char unread[] = "<X509Error:";
-	uint8_t		small[512];
-	uint8_t    *text_at = small;
-	size_t		length = 0;
-	size_t		at = 0;
-	text	   *value = NULL;
-	Line		line;
+	Certificate c;
+	Told		told;
 
-	if (taken(rtv_name_text(name.at, name.length, small, sizeof small, &length, &at)))
-	{
-		if (length >= sizeof small)
-		{
-			text_at = huge(length, 1);
-			taken(rtv_name_text(name.at, name.length, text_at, length + 1, &length, &at));
-		}
-		if (length < sizeof unread || memcmp(text_at, unread, sizeof unread - 1) != 0)
-			return text_of(text_at, length);
-	}
-	line = line_of(c->octets, RTV_A_CERTIFICATE, MaxAllocHugeSize - 1);
-	value = string_text(member(member(line.at, line.end, key), line.end, "text"), line.end);
-	pfree(line.at);
-	return value;
+	if (!read_fields(fcinfo, &c))
+		PG_RETURN_NULL();
+	if (tell(&told, tell_name, *(const rtv_bytes *) ((const char *) &c.it + field)) &&
+		(told.length < sizeof unread || memcmp(told.at, unread, sizeof unread - 1) != 0))
+		return text_or_null(fcinfo, text_of(told.at, told.length));
+	return text_or_null(fcinfo, text_in_line(c.octets, key, "text"));
 }
 
 PG_FUNCTION_INFO_V1(x509_subject);
 Datum
 x509_subject(PG_FUNCTION_ARGS)
 {
-	Certificate c;
-	text	   *value = read_certificate(fcinfo, &c) ? name_to_text(&c, c.it.subject, "subject") : NULL;
-
-	if (!value)
-		PG_RETURN_NULL();
-	PG_RETURN_TEXT_P(value);
+	return name_column(fcinfo, offsetof(rtv_certificate, subject), "subject");
 }
 
 PG_FUNCTION_INFO_V1(x509_issuer);
 Datum
 x509_issuer(PG_FUNCTION_ARGS)
 {
-	Certificate c;
-	text	   *value = read_certificate(fcinfo, &c) ? name_to_text(&c, c.it.issuer, "issuer") : NULL;
-
-	if (!value)
-		PG_RETURN_NULL();
-	PG_RETURN_TEXT_P(value);
+	return name_column(fcinfo, offsetof(rtv_certificate, issuer), "issuer");
 }
 
 PG_FUNCTION_INFO_V1(x509_serial);
@@ -548,7 +607,7 @@ x509_serial(PG_FUNCTION_ARGS)
 {
 	Certificate c;
 
-	if (!read_certificate(fcinfo, &c))
+	if (!read_fields(fcinfo, &c))
 		PG_RETURN_NULL();
 	PG_RETURN_BYTEA_P(bytea_of(c.it.serial));
 }
@@ -611,7 +670,7 @@ x509_serial_number(PG_FUNCTION_ARGS)
 	Certificate c;
 	char	   *digits;
 
-	if (!read_certificate(fcinfo, &c) || c.it.serial.length == 0)
+	if (!read_fields(fcinfo, &c) || c.it.serial.length == 0)
 		PG_RETURN_NULL();
 	digits = decimal_of(c.it.serial);
 	if (!digits)
@@ -619,79 +678,150 @@ x509_serial_number(PG_FUNCTION_ARGS)
 	return DirectFunctionCall3(numeric_in, CStringGetDatum(digits), ObjectIdGetDatum(InvalidOid), Int32GetDatum(-1));
 }
 
+/* `field` is the time's place in the struct. */
+static Datum
+time_column(FunctionCallInfo fcinfo, size_t field)
+{
+	Certificate c;
+
+	if (!read_fields(fcinfo, &c))
+		PG_RETURN_NULL();
+	PG_RETURN_TIMESTAMPTZ(time_of(*(const int64_t *) ((const char *) &c.it + field)));
+}
+
 PG_FUNCTION_INFO_V1(x509_not_before);
 Datum
 x509_not_before(PG_FUNCTION_ARGS)
 {
-	Certificate c;
-
-	if (!read_certificate(fcinfo, &c))
-		PG_RETURN_NULL();
-	PG_RETURN_TIMESTAMPTZ(time_of(c.it.not_before));
+	return time_column(fcinfo, offsetof(rtv_certificate, not_before));
 }
 
 PG_FUNCTION_INFO_V1(x509_not_after);
 Datum
 x509_not_after(PG_FUNCTION_ARGS)
 {
+	return time_column(fcinfo, offsetof(rtv_certificate, not_after));
+}
+
+/* `field` is the place in the struct of what is hashed. */
+static Datum
+sha256_column(FunctionCallInfo fcinfo, size_t field)
+{
 	Certificate c;
 
-	if (!read_certificate(fcinfo, &c))
+	if (!read_fields(fcinfo, &c))
 		PG_RETURN_NULL();
-	PG_RETURN_TIMESTAMPTZ(time_of(c.it.not_after));
+	return sha256_of(*(const rtv_bytes *) ((const char *) &c.it + field));
 }
 
 PG_FUNCTION_INFO_V1(x509_sha256);
 Datum
 x509_sha256(PG_FUNCTION_ARGS)
 {
-	Certificate c;
-
-	if (!read_certificate(fcinfo, &c))
-		PG_RETURN_NULL();
-	return sha256_of(c.it.whole);
+	return sha256_column(fcinfo, offsetof(rtv_certificate, whole));
 }
 
 PG_FUNCTION_INFO_V1(x509_spki_sha256);
 Datum
 x509_spki_sha256(PG_FUNCTION_ARGS)
 {
-	Certificate c;
-
-	if (!read_certificate(fcinfo, &c))
-		PG_RETURN_NULL();
-	return sha256_of(c.it.key_info);
+	return sha256_column(fcinfo, offsetof(rtv_certificate, key_info));
 }
 
-/* ---- what the line alone says */
+/* ---- keys and signatures */
+
+/* Words that the line says of algorithms, by the contents of their identifiers. */
+typedef struct
+{
+	size_t		count;
+	struct
+	{
+		uint8_t		oid[KNOWN_OCTETS];
+		size_t		length;
+		text	   *word;			/* NULL where the line has null */
+	}			known[KNOWN_WORDS];
+} Words;
+
+/* A word of the certificate's line that goes by this identifier alone: the first such words are kept as long as the query runs. */
+static text *
+word_by(FunctionCallInfo fcinfo, const Certificate *c, rtv_bytes oid, const char *part, const char *key)
+{
+	MemoryContext kept = fcinfo->flinfo->fn_mcxt,
+				outside;
+	Words	   *words = fcinfo->flinfo->fn_extra;
+	text	   *word;
+
+	if (!words)
+		words = fcinfo->flinfo->fn_extra = MemoryContextAllocZero(kept, sizeof *words);
+	for (size_t k = 0; k < words->count; k++)
+		if (is_octets(oid, words->known[k].oid, words->known[k].length))
+			return words->known[k].word;
+	if (oid.length > KNOWN_OCTETS || words->count == KNOWN_WORDS)
+		return text_in_line(c->octets, part, key);
+	outside = MemoryContextSwitchTo(kept);
+	word = text_in_line(c->octets, part, key);
+	MemoryContextSwitchTo(outside);
+	memcpy(words->known[words->count].oid, oid.at, oid.length);
+	words->known[words->count].length = oid.length;
+	words->known[words->count++].word = word;
+	return word;
+}
 
 PG_FUNCTION_INFO_V1(x509_key_kind);
 Datum
 x509_key_kind(PG_FUNCTION_ARGS)
 {
-	Line		line = line_of(octets_of(PG_GETARG_BYTEA_PP(0)), RTV_A_CERTIFICATE, MaxAllocHugeSize - 1);
-	text	   *value = string_text(member(member(line.at, line.end, "key"), line.end, "kind"), line.end);
+	Certificate c;
 
-	pfree(line.at);
-	if (!value)
+	if (!read_fields(fcinfo, &c))
 		PG_RETURN_NULL();
-	PG_RETURN_TEXT_P(value);
+	return text_or_null(fcinfo, word_by(fcinfo, &c, c.it.key_algorithm, "key", "kind"));
 }
 
+/* Of RSASSA-PSS the parameters say the hash, of all others the identifier. */
 PG_FUNCTION_INFO_V1(x509_signature_hash);
 Datum
 x509_signature_hash(PG_FUNCTION_ARGS)
 {
-	Line		line = line_of(octets_of(PG_GETARG_BYTEA_PP(0)), RTV_A_CERTIFICATE, MaxAllocHugeSize - 1);
-	text	   *value = string_text(member(member(line.at, line.end, "signature_algorithm"), line.end, "hash"), line.end);
+	static const char part[] = "signature_algorithm";
+	Certificate c;
 
-	pfree(line.at);
-	if (!value)
+	if (!read_fields(fcinfo, &c))
 		PG_RETURN_NULL();
-	PG_RETURN_TEXT_P(value);
+	if (is_octets(c.it.signature_algorithm, rsassa_pss, sizeof rsassa_pss))
+		return text_or_null(fcinfo, text_in_line(c.octets, part, "hash"));
+	return text_or_null(fcinfo, word_by(fcinfo, &c, c.it.signature_algorithm, part, "hash"));
 }
 
-/* The report knows the size of more kinds of keys than the library's struct, as of RSA-PSS: where that has 0, the line says it. */
+/* The bits of a coordinate on the curve that a key names by an OBJECT IDENTIFIER, of the curves that most keys are on; else 0. */
+static size_t
+curve_bits(rtv_bytes key_info)
+{
+	static const struct
+	{
+		uint8_t		oid[8];
+		size_t		length;
+		size_t		bits;
+	}			curves[] = {
+		{{0x2a, 0x86, 0x48, 0xce, 0x3d, 0x03, 0x01, 0x07}, 8, 256},	/* secp256r1 */
+		{{0x2b, 0x81, 0x04, 0x00, 0x22}, 5, 384},	/* secp384r1 */
+		{{0x2b, 0x81, 0x04, 0x00, 0x23}, 5, 521},	/* secp521r1 */
+	};
+	rtv_key_info info = RTV_KEY_INFO_INIT;
+	size_t		at = 0;
+
+	if (!taken(rtv_read_key_info(key_info.at, key_info.length, &info, &at)) || info.parameters_tag != 6)
+		return 0;
+	for (int k = 0; k < lengthof(curves); k++)
+		/* (the tag is told without its class: the octets in front of the contents are the header of no other) */
+		if (is_octets(info.parameters, curves[k].oid, curves[k].length) &&
+			info.parameters.at[-2] == 6 && info.parameters.at[-1] == curves[k].length)
+			return curves[k].bits;
+	return 0;
+}
+
+/* As the report has it: of a key on a curve that is known, the curve's; the library's struct has that of the point's octets, 528 for
+ * secp521r1. The report also knows the size of more kinds of keys, as of RSA-PSS: what isn't known here, the line says. */
 PG_FUNCTION_INFO_V1(x509_key_bits);
 Datum
 x509_key_bits(PG_FUNCTION_ARGS)
@@ -699,9 +829,9 @@ x509_key_bits(PG_FUNCTION_ARGS)
 	Certificate c;
 	size_t		bits;
 
-	if (!read_certificate(fcinfo, &c))
+	if (!read_fields(fcinfo, &c))
 		PG_RETURN_NULL();
-	bits = c.it.key_size;
+	bits = is_octets(c.it.key_algorithm, ec_public_key, sizeof ec_public_key) ? curve_bits(c.it.key_info) : c.it.key_size;
 	if (bits == 0)
 	{
 		Line		line = line_of(c.octets, RTV_A_CERTIFICATE, MaxAllocHugeSize - 1);
@@ -727,52 +857,45 @@ put_row(FunctionCallInfo fcinfo, Datum *values, bool *nulls)
 	CHECK_FOR_INTERRUPTS();
 }
 
+/* The row of a line: it is a level, a colon, a space and a message. */
+static void
+put_message(FunctionCallInfo fcinfo, const uint8_t *line, const uint8_t *end)
+{
+	const uint8_t *colon = memchr(line, ':', end - line);
+	Datum		values[2];
+	bool		nulls[2] = {false, false};
+	text	   *message;
+
+	if (!colon || end - colon < 2)
+		return;
+	message = text_of(colon + 2, end - colon - 2);
+	values[0] = PointerGetDatum(cstring_to_text_with_len((const char *) line, (int) (colon - line)));
+	values[1] = PointerGetDatum(message);
+	nulls[1] = message == NULL;
+	put_row(fcinfo, values, nulls);
+}
+
 PG_FUNCTION_INFO_V1(x509_messages);
 Datum
 x509_messages(PG_FUNCTION_ARGS)
 {
-	static const char *const keys[] = {"warnings", "errors"};
-	static const char *const levels[] = {"warning", "error"};
-	Line		line = line_of(octets_of(PG_GETARG_BYTEA_PP(0)), RTV_A_CERTIFICATE, MaxAllocHugeSize - 1);
-	const uint8_t *validator = member(line.at, line.end, "validator");
+	Told		told;
+	const uint8_t *line,
+			   *end;
 
 	InitMaterializedSRF(fcinfo, 0);
-	for (int k = 0; k < lengthof(keys); k++)
+	if (!tell(&told, tell_messages, octets_of(PG_GETARG_BYTEA_PP(0))))
+		return (Datum) 0;
+	line = told.at;
+	while ((end = memchr(line, '\n', told.at + told.length - line)) != NULL)
 	{
-		Datum		values[2];
-		bool		nulls[2] = {false, false};
-
-		values[0] = CStringGetTextDatum(levels[k]);
-		for (const uint8_t *at = first_item(member(validator, line.end, keys[k]), line.end); at; at = next_value(at, line.end))
-		{
-			text	   *message = string_text(at, line.end);
-
-			values[1] = PointerGetDatum(message);
-			nulls[1] = message == NULL;
-			put_row(fcinfo, values, nulls);
-		}
+		put_message(fcinfo, line, end);
+		line = end + 1;
 	}
-	pfree(line.at);
 	return (Datum) 0;
 }
 
 /* ---- values of extensions */
-
-static text *
-oid_text(rtv_bytes oid)
-{
-	uint8_t		small[128];
-	uint8_t    *at = small;
-	size_t		length = 0;
-
-	taken(rtv_oid_text(oid.at, oid.length, small, sizeof small, &length));
-	if (length >= sizeof small)
-	{
-		at = huge(length, 1);
-		taken(rtv_oid_text(oid.at, oid.length, at, length + 1, &length));
-	}
-	return text_of(at, length);
-}
 
 PG_FUNCTION_INFO_V1(x509_extension);
 Datum
@@ -1080,136 +1203,18 @@ x509_scts(PG_FUNCTION_ARGS)
 
 /* ---- lists of revoked certificates */
 
-/* Reasons that were read, by the octets of the extensions that say them: most entries of a list have one of few. */
-typedef struct
-{
-	struct
-	{
-		uint8_t		octets[KNOWN_OCTETS];
-		size_t		length;
-		text	   *reason;
-	}			known[KNOWN_REASONS];
-	size_t		count;
-} Reasons;
-
-/* Behind the header of the element at `at`, or NULL; its contents' length. It has been read: here it is only passed over. */
-static const uint8_t *
-behind_header(const uint8_t *at, const uint8_t *end, size_t *length)
-{
-	int			octets;
-
-	if (end - at < 2 || (*at & 0x1f) == 0x1f)
-		return NULL;
-	octets = at[1];
-	at += 2;
-	*length = octets;
-	if (octets > 0x80)
-	{
-		*length = 0;
-		if (octets > 0x84 || end - at < octets - 0x80)
-			return NULL;
-		for (; octets > 0x80; octets--)
-			*length = *length << 8 | *at++;
-	}
-	return *length <= (size_t) (end - at) ? at : NULL;
-}
-
-static void
-put_header(StringInfo out, uint8_t tag, size_t length)
-{
-	int			octets = 0;
-
-	while (length >> (8 * octets) != 0)
-		octets++;
-	appendStringInfoChar(out, (char) tag);
-	if (length >= 0x80)
-		appendStringInfoChar(out, (char) (0x80 + octets));
-	else
-		octets = 1;
-	while (octets-- > 0)
-		appendStringInfoChar(out, (char) (length >> (8 * octets)));
-}
-
-/* What the extensions of an entry, a SEQUENCE with its header, say of its reason. The library hands out no extensions of entries, but reads
- * those of lists by the same reader: so a list is made that has them, and the line about it says the reason. */
+/* Why a certificate was revoked, in the report's words (RFC 5280, 5.3.1); NULL where the entry doesn't say it. */
 static text *
-reason_of(rtv_bytes extensions)
+reason_of(const rtv_revoked *entry)
 {
-	static const char before[] = {0x02, 0x01, 0x01, 0x30, 0x03, 0x06, 0x01, 0x2a, 0x30, 0x00,
-	0x17, 0x0d, '7', '0', '0', '1', '0', '1', '0', '0', '0', '0', '0', '0', 'Z'};
-	static const char behind[] = {0x30, 0x03, 0x06, 0x01, 0x2a, 0x03, 0x01, 0x00};
-	StringInfoData wrapped,
-				signed_part,
-				list;
-	rtv_bytes	octets;
-	text	   *reason = NULL;
-	Line		line;
+	static const char *const words[] = {
+		"unspecified", "key_compromise", "ca_compromise", "affiliation_changed", "superseded", "cessation_of_operation",
+		"certificate_hold", NULL, "remove_from_crl", "privilege_withdrawn", "aa_compromise"
+	};
 
-	if (extensions.length > MOST_TEXT - 100)
+	if (!entry->has_reason)
 		return NULL;
-	initStringInfo(&wrapped);
-	put_header(&wrapped, 0xa0, extensions.length);
-	appendBinaryStringInfo(&wrapped, (const char *) extensions.at, (int) extensions.length);
-	initStringInfo(&signed_part);
-	put_header(&signed_part, 0x30, sizeof before + wrapped.len);
-	appendBinaryStringInfo(&signed_part, before, sizeof before);
-	appendBinaryStringInfo(&signed_part, wrapped.data, wrapped.len);
-	initStringInfo(&list);
-	put_header(&list, 0x30, signed_part.len + sizeof behind);
-	appendBinaryStringInfo(&list, signed_part.data, signed_part.len);
-	appendBinaryStringInfo(&list, behind, sizeof behind);
-
-	octets.at = (const uint8_t *) list.data;
-	octets.length = list.len;
-	line = line_of(octets, RTV_A_LIST, MaxAllocHugeSize - 1);
-	for (const uint8_t *at = first_item(member(line.at, line.end, "extensions"), line.end); at; at = next_value(at, line.end))
-	{
-		if (!is_string(member(at, line.end, "oid"), line.end, "2.5.29.21"))
-			continue;
-		if (is_string(member(at, line.end, "kind"), line.end, "reason_code"))
-			reason = string_text(member(member(at, line.end, "value"), line.end, "reason"), line.end);
-		break;
-	}
-	pfree(line.at);
-	pfree(list.data);
-	pfree(signed_part.data);
-	pfree(wrapped.data);
-	return reason;
-}
-
-/* The reason of an entry, or NULL: its extensions stand behind its time, and that behind its serial. */
-static text *
-reason_in(Reasons *reasons, rtv_bytes list, const rtv_revoked *entry)
-{
-	const uint8_t *end = list.at + list.length;
-	const uint8_t *at = entry->serial.at + entry->serial.length;
-	const uint8_t *contents;
-	rtv_bytes	extensions;
-	size_t		length = 0;
-	int			k;
-
-	if (entry->extension_count == 0 || entry->serial.length == 0)
-		return NULL;
-	contents = behind_header(at, end, &length);
-	if (!contents)
-		return NULL;
-	extensions.at = contents + length;
-	contents = behind_header(extensions.at, end, &length);
-	if (!contents)
-		return NULL;
-	extensions.length = contents + length - extensions.at;
-	if (extensions.length > KNOWN_OCTETS)
-		return reason_of(extensions);
-	for (k = 0; k < Min(reasons->count, KNOWN_REASONS); k++)
-		if (is_octets(extensions, reasons->known[k].octets, reasons->known[k].length))
-			return reasons->known[k].reason;
-	k = reasons->count++ % KNOWN_REASONS;
-	if (reasons->known[k].reason)
-		pfree(reasons->known[k].reason);
-	reasons->known[k].reason = reason_of(extensions);
-	reasons->known[k].length = extensions.length;
-	memcpy(reasons->known[k].octets, extensions.at, extensions.length);
-	return reasons->known[k].reason;
+	return cstring_to_text(entry->reason < lengthof(words) && words[entry->reason] ? words[entry->reason] : "unknown");
 }
 
 PG_FUNCTION_INFO_V1(x509_crl_entries);
@@ -1222,7 +1227,6 @@ x509_crl_entries(PG_FUNCTION_ARGS)
 	rtv_revoked *rows;
 	size_t		room = octets.length / 35 + 1;	/* entries are seldom shorter: with that room one reading does */
 	size_t		at = 0;
-	Reasons    *reasons = palloc0(sizeof *reasons);
 	MemoryContext each;
 
 	InitMaterializedSRF(fcinfo, 0);
@@ -1242,8 +1246,8 @@ x509_crl_entries(PG_FUNCTION_ARGS)
 	each = AllocSetContextCreate(CurrentMemoryContext, "entry of a list", ALLOCSET_SMALL_SIZES);
 	for (size_t k = 0; k < list.revoked_count; k++)
 	{
-		text	   *reason = reason_in(reasons, octets, &rows[k]);
 		MemoryContext outside = MemoryContextSwitchTo(each);
+		text	   *reason = reason_of(&rows[k]);
 		Datum		values[3] = {PointerGetDatum(bytea_of(rows[k].serial)), TimestampTzGetDatum(time_of(rows[k].revocation_date)), PointerGetDatum(reason)};
 		bool		nulls[3] = {false, false, reason == NULL};
 
@@ -1265,7 +1269,6 @@ x509_crl_find(PG_FUNCTION_ARGS)
 	rtv_revoked row = RTV_REVOKED_INIT;
 	size_t		position = 0,
 				at = 0;
-	Reasons    *reasons;
 	TupleDesc	desc;
 	Datum		values[3];
 	bool		nulls[3] = {false, false, false};
@@ -1275,8 +1278,7 @@ x509_crl_find(PG_FUNCTION_ARGS)
 		elog(ERROR, "return type must be a row type");
 	if (!taken(rtv_find_revoked(octets.at, octets.length, serial.at, serial.length, &row, &position, &at)))
 		PG_RETURN_NULL();
-	reasons = palloc0(sizeof *reasons);
-	reason = reason_in(reasons, octets, &row);
+	reason = reason_of(&row);
 	values[0] = TimestampTzGetDatum(time_of(row.revocation_date));
 	values[1] = PointerGetDatum(reason);
 	nulls[1] = reason == NULL;

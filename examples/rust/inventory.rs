@@ -136,7 +136,7 @@ mod x509 {
     /// Whether the library has the structs that stand here: while the first number is 0, the second tells.
     pub fn is_of_this_header() -> bool {
         // SAFETY: it takes nothing.
-        unsafe { rtv_version() / 100 == 1 }
+        unsafe { rtv_version() / 100 == 2 }
     }
 
     /// All rows that `call` writes; it tells how many there are, and is asked again where there was no room for all.

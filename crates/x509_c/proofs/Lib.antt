@@ -1,6 +1,6 @@
-pub mod Attributes
 pub mod Comments
 pub mod Messages
+pub mod Numbered
 pub mod Ranks
 pub mod Rows
 pub mod Telling

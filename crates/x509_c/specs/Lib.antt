@@ -1,7 +1,10 @@
 pub mod Authorities
 pub mod Certificates
 pub mod DistributionPoints
+pub mod Entries
+pub mod EntryExtensions
 pub mod Extensions
+pub mod FieldPaths
 pub mod Flags
 pub mod GeneralNames
 pub mod Index
@@ -18,6 +21,7 @@ pub mod Reports
 pub mod Requests
 pub mod Rows
 pub mod Seconds
+pub mod SignatureKinds
 pub mod Status
 pub mod Tells
 pub mod Text

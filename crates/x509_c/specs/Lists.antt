@@ -5,10 +5,13 @@ use Rattle.x509_der.specs.Plan.{strictly_if}
 use Rattle.x509_fields.specs.declared.error.X509Error.TheVariants.{Generic}
 use Rattle.x509_fields.specs.Fields.{Field}
 use Rattle.x509_fields.specs.Signed.{Signed}
+use Rattle.x509_extensions.specs.Parsed.{Parsed, ReasonCode}
 use Rattle.x509_lists.specs.CertificateList.{certificate_list}
 use Rattle.x509_lists.specs.FindRevoked.{first_of, serial_numbers}
 use Rattle.x509_lists.specs.RevokedCertificate.{Revoked}
 use Rattle.x509_lists.specs.TbsCertList.{TbsList}
+use Rattle.x509_names.specs.Objects as objects
+use Rattle.x509_report_objects.specs.Lists.{first_parsed}
 use Rattle.x509_c.specs.Extensions.{IsExtensionRow}
 use Rattle.x509_c.specs.Rows.{RowsShow}
 use Rattle.x509_c.specs.Seconds.{AreSecondsOf, AreSecondsOfSome}
@@ -21,10 +24,20 @@ use Rattle.x509_c.specs.declared.lists.RevokedRow.{RevokedRow}
 abbrev pub list_by : Bool → Field (Signed TbsList)
 list_by strictly = strictly_if strictly (Error Generic) certificate_list
 
+-- why a certificate was revoked, as the first extension with that identifier says (RFC 5280, 5.3.1)
+abbrev pub code_in : Option Parsed → Option ℕ
+code_in (Some (ReasonCode code)) = Some code
+code_in _ = None
+
+abbrev pub reason_given : Revoked → Option ℕ
+reason_given revoked = code_in (first_parsed objects.reason_code revoked.extensions)
+
 pub record IsRevokedRow (row : RevokedRow) (revoked : Revoked) : Type 0 where
   pub serial : row.serial.now ≡ revoked.raw_serial
   pub revocation_date : AreSecondsOf row.revocation_date revoked.revocation_date
   pub extension_count : row.extension_count ≡ length revoked.extensions
+  pub reason : row.reason ≡ there_or 0 (reason_given revoked)
+  pub has_reason : row.has_reason ≡ is_there (reason_given revoked)
 
 pub record IsListRow (row : ListRow) (list : Signed TbsList) (behind : List ℕ) : Type 0 where
   pub whole : row.whole.now ≡ list.raw

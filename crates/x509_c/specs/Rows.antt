@@ -1,5 +1,5 @@
 -- Rows of the caller.
-use Rattle.std.specs.Prelude.{◌≡◌, ℕ, ◌<◌, ◌+◌, List, length, min, slice_index_or}
+use Rattle.std.specs.Prelude.{◌≡◌, ℕ, ◌<◌, ◌+◌, List, [], ◌∷◌, ◌++◌, length, map, min, slice_index_or}
 
 -- each row below an index shows its item
 abbrev pub RowsShowBelow : {R X : Type 0} → (R → X → Type 0) → ℕ → List R → List X → Type 0
@@ -14,3 +14,14 @@ pub record ContinuesRows {R X : Type 0} (Shows : R → X → Type 0) (before : �
   pub count : after ≡ min (length new) (before + length items)
   pub kept : (k : ℕ) (r : R) → k < before → slice_index_or new k r ≡ slice_index_or old k r
   pub shown : (k : ℕ) (r : R) (x : X) → before + k < after → Shows (slice_index_or new (before + k) r) (slice_index_or items k x)
+
+-- ---- items of members
+
+-- the items of a member, each with the member's number
+abbrev pub numbered : {X : Type 0} → ℕ → List X → List (ℕ × X)
+numbered number items = map (λ x. (number, x)) items
+
+-- those of all members in order, of which the first has this number
+abbrev pub numbered_from : {X : Type 0} → ℕ → List (List X) → List (ℕ × X)
+numbered_from number [] = []
+numbered_from number (items ∷ more) = numbered number items ++ numbered_from (number + 1) more

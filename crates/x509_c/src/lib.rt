@@ -8,7 +8,10 @@
 mod authorities;
 mod certificate;
 mod distribution_points;
+mod entries;
+mod entry_extensions;
 mod extensions;
+mod field_path;
 mod general_names;
 mod index;
 mod issuing_point;
@@ -25,6 +28,7 @@ mod policy_rules;
 mod report;
 mod requests;
 mod row_writer;
+mod signature_kind;
 mod status;
 mod text;
 mod times;

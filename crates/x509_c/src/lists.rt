@@ -7,19 +7,23 @@ ghost use Rattle.x509_fields.specs.Errors.{is_x509_memory};
 ghost use Rattle.x509_lists.specs.CertificateList.{certificate_list, list_of};
 ghost use Rattle.x509_lists.specs.RevokedCertificate.{Revoked, revoked_of};
 ghost use Rattle.x509_lists.specs.TbsCertList.{tbs_list_of};
-ghost use Rattle.x509_c.specs.Lists.{IsListRow, IsRevokedRow, LooksUp, ShowsList, list_by};
+ghost use Rattle.x509_c.specs.Lists.{IsListRow, IsRevokedRow, LooksUp, ShowsList, list_by, reason_given};
 ghost use Rattle.x509_c.specs.Options.{is_there, there_or};
 ghost use Rattle.x509_c.specs.Seconds.{AreSecondsOfSome};
 ghost use Rattle.x509_c.specs.Tells.{Tells, Done};
 
 use crate::extensions::ExtensionRow;
+use crate::options::{is_some, or_zero};
 use crate::row_writer::{HasRow, put_rows};
 use crate::status::{NOT_FOUND, OK, refused};
 use crate::times::seconds;
 use std::alloc::Global;
 use x509_der::{FromDer, Located, Reader, UnsignedBytes};
+use x509_extensions::ParsedExtension;
 use x509_fields::{Plainly, X509Error};
 use x509_lists::{CertificateRevocationList, RevokedCertificate, TbsCertList};
+use x509_names::OID_X509_EXT_REASON_CODE;
+use x509_report_objects::first_parsed;
 
 /// What a list of revoked certificates says: `rtv_list` of rushtrivet.h.
 #[repr(C)]
@@ -65,15 +69,34 @@ pub struct RevokedRow<'a> {
     pub revocation_date: i64,
     /// How many extensions the entry has.
     pub extension_count: usize,
+    /// The number of the reason; 0 where none is given.
+    pub reason: u32,
+    /// 1 where a reason is given, and else 0.
+    pub has_reason: u32,
 }
 
-fn revoked_row<'a>(revoked: &RevokedCertificate<'a>) -> RevokedRow<'a>
+/// Why the certificate was revoked (RFC 5280, section 5.3.1), as the first extension with that identifier says; none where its value
+/// can't be read.
+fn reason(revoked: &RevokedCertificate<'_>) -> Option<u32>
+    ensures { result ≡ reason_given (revoked_of revoked.now) }
+{
+    match first_parsed(OID_X509_EXT_REASON_CODE, revoked.extensions()) {
+        Some(ParsedExtension::ReasonCode(reason)) => Some(u32::from(reason.0)),
+        _ => None,
+    }
+}
+
+/// An entry as a row.
+pub(crate) fn revoked_row<'a>(revoked: &RevokedCertificate<'a>) -> RevokedRow<'a>
     ensures { IsRevokedRow result (revoked_of revoked.now) }
 {
+    let reason = reason(revoked);
     RevokedRow {
         serial: revoked.raw_serial(),
         revocation_date: seconds(&revoked.revocation_date),
         extension_count: revoked.extensions().len(),
+        reason: or_zero(reason),
+        has_reason: is_some(&reason),
     }
 }
 

@@ -1,21 +1,21 @@
 //! Names, and their texts.
 
-ghost use Rattle.std.specs.Prelude.{◌≡◌, ◌≤◌, ◌<◌, ◌+◌, ℕ, IfSome, codes, length, map, min, slice_index_or};
+ghost use Rattle.std.specs.Prelude.{◌≡◌, codes};
 ghost use Rattle.x509_der.specs.Hex.{hex_text};
 ghost use Rattle.x509_der.specs.Oid.{oid_text};
-ghost use Rattle.x509_names.specs.Names.{attribute_of, name, name_of};
+ghost use Rattle.x509_names.specs.Names.{Attribute, attribute_of, name, name_of};
 ghost use Rattle.x509_names.specs.NameTexts.{shown_name};
-ghost use Rattle.x509_c.specs.Names.{IsAttributeRow, ShowsName, attributes_at, attributes_from};
-ghost use Rattle.x509_c.specs.Rows.{ContinuesRows, RowsShow};
+ghost use Rattle.x509_c.specs.Names.{IsAttributeRow, ShowsName};
 ghost use Rattle.x509_c.specs.Tells.{Tells, Done};
 ghost use Rattle.x509_c.specs.Text.{ShowsText, TellsText};
 
+use crate::row_writer::{HasItems, HasNumberedRow, count_items, put_items};
 use crate::status::{OK, OUT_OF_MEMORY, refused};
 use crate::text::put_text;
 use std::alloc::Global;
 use x509_der::{FromDer, Oid};
 use x509_fields::format_serial;
-use x509_names::{AttributeTypeAndValue, X509Name};
+use x509_names::{AttributeTypeAndValue, RelativeDistinguishedName, X509Name};
 
 /// Writes the text of the name at the front of the buffer, as `C=FR, CN=www.example.com`; its characters stand as they are in the name.
 #[unsafe(no_mangle)]
@@ -98,55 +98,31 @@ pub struct AttributeRow<'a> {
     pub tag: u32,
 }
 
-fn attribute_row<'a>(attribute: &AttributeTypeAndValue<'a>, relative: usize) -> AttributeRow<'a>
-    ensures { IsAttributeRow result (record { relative = relative; attribute = attribute_of attribute.now }) }
-{
-    AttributeRow {
-        oid: attribute.attr_type().as_bytes(),
-        value: attribute.as_slice(),
-        relative,
-        tag: attribute.attr_value().tag().0,
+impl<'a> HasNumberedRow for AttributeTypeAndValue<'a> {
+    type Row = AttributeRow<'a>;
+
+    ghost Value = { Attribute };
+
+    ghost view = { attribute_of };
+
+    ghost Shows = { IsAttributeRow };
+
+    fn numbered_row(&self, number: usize) -> AttributeRow<'a> {
+        AttributeRow {
+            oid: self.attr_type().as_bytes(),
+            value: self.as_slice(),
+            relative: number,
+            tag: self.attr_value().tag().0,
+        }
     }
 }
 
-/// Writes the attributes of a relative name behind the rows that are written, as many as have room, and gives how many are written then.
-fn put_relative<'a>(
-    rows: &mut [AttributeRow<'a>],
-    written: usize,
-    relative: usize,
-    attributes: &[AttributeTypeAndValue<'a>],
-) -> usize
-    requires { written ≤ length rows.old }
-    ensures { ContinuesRows IsAttributeRow written rows.old result rows.new (attributes_at relative (map attribute_of attributes.now)) }
-{
-    let count = attributes.len().min(rows.len() - written);
-    for i in 0..count {
-        rows[written + i] = attribute_row(&attributes[i], relative);
-    }
-    written + count
-}
+impl<'a> HasItems<AttributeTypeAndValue<'a>> for RelativeDistinguishedName<'a> {
+    ghost own = { λ r. r.set };
 
-/// Writes the attributes of a name, in order, as many as there are rows.
-fn put_attributes<'a>(rows: &mut [AttributeRow<'a>], name: &X509Name<'a>)
-    ensures { RowsShow IsAttributeRow rows.new (attributes_from 0 (name_of name.now).relative) }
-{
-    let relative = name.relative_names();
-    let mut written = 0;
-    for i in 0..relative.len() {
-        written = put_relative(rows, written, i, relative[i].attributes());
+    fn items(&self) -> &[AttributeTypeAndValue<'a>] {
+        self.attributes()
     }
-}
-
-/// How many attributes a name has; none where no number tells it.
-fn count_attributes(name: &X509Name<'_>) -> Option<usize>
-    ensures { IfSome result (λ count. count ≡ length (attributes_from 0 (name_of name.now).relative)) }
-{
-    let relative = name.relative_names();
-    let mut count = 0usize;
-    for i in 0..relative.len() {
-        count = count.checked_add(relative[i].attributes().len())?;
-    }
-    Some(count)
 }
 
 /// Reads the name at the front of the buffer. Its attributes are written in order, as many as there are rows, and all of them are
@@ -165,9 +141,9 @@ pub extern "C" fn rtv_read_name<'a>(
         at.old at.new result }
 {
     match X509Name::from_der_located(alloc, der) {
-        Ok((_, read)) => match count_attributes(&read) {
+        Ok((_, read)) => match count_items(read.relative_names()) {
             Some(counted) => {
-                put_attributes(attributes, &read);
+                put_items(attributes, read.relative_names());
                 *count = counted;
                 OK
             }

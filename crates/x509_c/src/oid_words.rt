@@ -23,7 +23,8 @@ pub extern "C" fn rtv_oid_word(
     description_length: &mut usize,
 ) -> u32
     ensures { TellsEntry (known_in_full oid.now) name.new name_length.new description.new description_length.new
-        ((name.new ≡ name.old) × (name_length.new ≡ name_length.old) × (description.new ≡ description.old) × (description_length.new ≡ description_length.old)) result }
+        ((name.new ≡ name.old) × (name_length.new ≡ name_length.old) × (description.new ≡ description.old) ×
+        (description_length.new ≡ description_length.old)) result }
 {
     match registry_full(alloc) {
         Ok(registry) => match registry.get(&Oid::new(oid)) {

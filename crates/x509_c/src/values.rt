@@ -7,7 +7,8 @@ ghost use Rattle.x509_values.specs.ExtendedKeyUsage.{extended_key_usage, usages_
 ghost use Rattle.x509_values.specs.KeyUsage.{key_usage};
 ghost use Rattle.x509_values.specs.Policies.{PolicyQualifierValue, PolicyValue, policies, policy_of, policy_qualifier_of};
 ghost use Rattle.x509_c.specs.Tells.{Tells, Done};
-ghost use Rattle.x509_c.specs.Values.{AreOctets, IsBasicConstraintsRow, IsPolicyRow, IsUsagesRow, ShowsPolicies, ShowsUsages, FindsQualifiers, IsQualifierRow, qualifiers};
+ghost use Rattle.x509_c.specs.Values.{AreOctets, IsBasicConstraintsRow, IsPolicyRow, IsUsagesRow, ShowsPolicies, ShowsUsages, FindsQualifiers};
+ghost use Rattle.x509_c.specs.Values.{IsQualifierRow, qualifiers};
 
 use crate::octets::OctetsRow;
 use crate::row_writer::{HasRow, put_rows};

@@ -1,6 +1,6 @@
 //! A place of a window, and what stands there.
 
-ghost use Rattle.std.specs.Prelude.{◌≡◌, ◌<◌, ◌≤◌, ◌+◌, ◌++◌, ◌↔◌, IfOk, IfSome, IsSome, IsNone, Ok, Bool, true, false, min, length, slice_index};
+ghost use Rattle.std.specs.Prelude.{◌≡◌, ◌<◌, ◌≤◌, ◌+◌, ◌++◌, ◌↔◌, IfOk, IfSome, IsSome, IsNone, Ok, true, false, min, length, slice_index};
 ghost use Rattle.x509_der.specs.declared.look.Form.{Form};
 ghost use Rattle.x509_der.specs.Laws.{IsBytes};
 ghost use Rattle.x509_der.specs.Leaves.{any_header, any_loose};
@@ -239,7 +239,7 @@ impl<'a, L: Outside> Place<'a, L> {
     pub(crate) fn stop(&self) -> Stop<'a>
         requires some { 0 < length (at self.now) }
         requires none { is_element (at self.now) ≡ false }
-        ensures { (full : Bool) → IsStop full (at self.now) result }
+        ensures { IsStop false (at self.now) result }
     {
         if self.found {
             return Stop::Short {

@@ -1,5 +1,5 @@
 -- Algorithms of signatures (RFC 5280, 4.1.1.2), by the kind of their identifier.
-use Rattle.std.specs.Prelude.{◌≡◌, Bool, true, false, cond, Option, Some, None, Result, Ok, Err}
+use Rattle.std.specs.Prelude.{◌≡◌, Bool, true, false, cond, Option, Some, None, Result, Ok, Err, IfOk, IfErr}
 use Rattle.std.specs.Box.{box_value}
 use Rattle.x509_der.specs.Reading.{Element}
 use Rattle.x509_fields.specs.declared.error.X509Error.{X509Error}
@@ -11,7 +11,7 @@ use Rattle.x509_keys.specs.declared.signature_algorithm.SignatureAlgorithm.{Sign
 use Rattle.x509_keys.specs.declared.signature_algorithm.SignatureAlgorithm.TheVariants as variants
 use Rattle.x509_keys.specs.declared.signature_kind.SignatureKind.{SignatureKind}
 use Rattle.x509_keys.specs.declared.signature_kind.SignatureKind.TheVariants as kinds
-use Rattle.x509_keys.specs.Parameters.{parameters}
+use Rattle.x509_keys.specs.Parameters.{parameters, HoldsFields, RefusesFields}
 use Rattle.x509_keys.specs.RsaAesOaepParams.{Oaep, oaep_of, oaep_fields}
 use Rattle.x509_keys.specs.RsaSsaPssParams.{Pss, pss_of, pss_fields}
 use Rattle.x509_keys.specs.SignatureKinds.{signature_kind_of}
@@ -70,3 +70,16 @@ takes_box _ = false
 abbrev pub AnswersSignature : Result SignatureAlgorithm X509Error → Result Signature X509Error → Type 0
 AnswersSignature (Ok s) wanted = wanted ≡ Ok (signature_of s)
 AnswersSignature (Err e) wanted = cond (is_x509_memory e) (takes_box wanted ≡ true) (wanted ≡ Err e)
+
+-- ---- kinds with parameters
+
+-- an algorithm of this kind, whose parameters are this element
+abbrev pub HasParameters : SignatureKind → Algorithm → Element → Type 0
+HasParameters kind a e = (signature_kind_of a.algorithm ≡ Some kind) × (a.parameters ≡ Some e)
+
+-- The signature that the fields of its parameters make, both ways, and InvalidSignatureValue exactly where they are refused; or want of memory.
+pub record ReadsSignature {A : Type 0} (make : A → Signature) (fields : Field A) (e : Element) (result : Result SignatureAlgorithm X509Error) : Type 0 where
+  pub holds : IfOk result (λ s. (a : A) × HoldsFields fields e.header.tag.0 e.contents a × (signature_of s ≡ make a))
+  pub every : (a : A) → HoldsFields fields e.header.tag.0 e.contents a → AnswersSignature result (Ok (make a))
+  pub refused : IfErr result (λ why. is_x509_memory why ≡ false → (r : X509Error) × RefusesFields fields e.header.tag.0 e.contents r)
+  pub refuses : (r : X509Error) → RefusesFields fields e.header.tag.0 e.contents r → result ≡ Err x509.InvalidSignatureValue

@@ -1,7 +1,11 @@
 //! Algorithms of signatures.
 
+ghost use Rattle.x509_der.specs.Reading.{Element};
 ghost use Rattle.x509_fields.specs.Algorithm.{algorithm_of};
-ghost use Rattle.x509_keys.specs.SignatureAlgorithm.{AnswersSignature, signature};
+ghost use Rattle.x509_keys.specs.declared.signature_kind.SignatureKind.TheVariants as kinds;
+ghost use Rattle.x509_keys.specs.RsaAesOaepParams.{oaep_fields};
+ghost use Rattle.x509_keys.specs.RsaSsaPssParams.{pss_fields};
+ghost use Rattle.x509_keys.specs.SignatureAlgorithm.{AnswersSignature, HasParameters, ReadsSignature, RSASSA_PSS, RSAAES_OAEP, signature};
 
 use crate::rsa_aes_oaep_params::RsaAesOaepParams;
 use crate::rsa_ssa_pss_params::RsaSsaPssParams;
@@ -39,7 +43,9 @@ impl<'a> SignatureAlgorithm<'a> {
         alloc: Global,
         value: &AlgorithmIdentifier<'a>,
     ) -> Result<SignatureAlgorithm<'a>, X509Error>
-        ensures { AnswersSignature result (signature (algorithm_of value.now)) }
+        ensures answer { AnswersSignature result (signature (algorithm_of value.now)) }
+        ensures pss { (e : Element) → HasParameters kinds.Pss (algorithm_of value.now) e → ReadsSignature (λ p. RSASSA_PSS p) pss_fields e result }
+        ensures oaep { (e : Element) → HasParameters kinds.Oaep (algorithm_of value.now) e → ReadsSignature (λ p. RSAAES_OAEP p) oaep_fields e result }
     {
         let Some(kind) = SignatureKind::of(value.algorithm.as_bytes()) else {
             return Err(X509Error::InvalidSignatureValue);

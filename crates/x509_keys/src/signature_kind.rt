@@ -17,21 +17,27 @@ const EC_SIGNATURES: &[u8] = &[0x2a, 0x86, 0x48, 0xce, 0x3d, 0x04];
 /// 1.2.840.10040.4, below which id-dsa-with-sha1 stands (RFC 3279, section 2.2.2): the contents of the identifier.
 const X9_ALGORITHMS: &[u8] = &[0x2a, 0x86, 0x48, 0xce, 0x38, 0x04];
 
-/// The kinds of signatures, by the algorithm's identifier.
-#[derive(Clone, Copy, Debug)]
-pub(crate) enum SignatureKind {
+/// The kinds of signatures, by the algorithm's identifier alone: [`SignatureAlgorithm`](crate::SignatureAlgorithm) has the parameters too.
+#[derive(Clone, Copy, Debug, PartialEq, Eq)]
+pub enum SignatureKind {
+    /// pkcs-1 and those below it but the two that follow (RFC 4055, section 5).
     Rsa,
+    /// id-RSASSA-PSS (RFC 4055, section 3.1).
     Pss,
+    /// id-RSAES-OAEP (RFC 4055, section 4.1).
     Oaep,
+    /// 1.2.840.10040.4 and those below it (RFC 3279, section 2.2.2).
     Dsa,
+    /// id-ecSigType and those below it (RFC 3279, section 2.2.3).
     Ecdsa,
+    /// id-Ed25519 (RFC 8410, section 3).
     Ed25519,
 }
 
 impl SignatureKind {
-    /// The first kind that the identifier fits.
+    /// The first of RSAES-OAEP, RSASSA-PSS, RSA, ECDSA, DSA and Ed25519 that the identifier fits, whose contents octets these are; none where it fits none.
     #[tactic(auto, unfolding(crate::specs::SignatureKinds::signature_kind_of))]
-    pub(crate) fn of(octets: &[u8]) -> Option<SignatureKind>
+    pub fn of(octets: &[u8]) -> Option<SignatureKind>
         ensures { result ≡ signature_kind_of octets.now }
     {
         if octets == ID_RSAES_OAEP {

@@ -1,7 +1,13 @@
 pub mod RevokedCertificate
 pub mod RevokedList
+pub mod EntriesIn
+pub mod RevokedEntries
 pub mod NextUpdate
 pub mod Issue
 pub mod TbsCertList
+pub mod TbsParts
 pub mod CertificateList
+pub mod ListEntries
 pub mod FindRevoked
+pub mod FindEntries
+pub mod EntryIssuers

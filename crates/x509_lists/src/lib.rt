@@ -2,6 +2,11 @@
 #![tactic(auto)]
 
 mod certificate_list;
+mod certificate_list_entries;
+mod entries_iter;
+mod entries_run;
+mod find_entries;
+mod find_for;
 mod find_revoked;
 mod issue;
 mod laws;
@@ -10,17 +15,25 @@ mod look_ups;
 mod next_update;
 mod parsing;
 mod revoked_certificate;
+mod revoked_entries;
 mod revoked_iter;
 mod revoked_list;
 mod tbs_cert_list;
+mod tbs_cert_list_entries;
+mod tbs_parts;
 
 pub use certificate_list::CertificateRevocationList;
+pub use certificate_list_entries::CertificateListEntries;
+pub use entries_iter::EntriesIter;
 pub use laws::grammar_laws;
 pub use parsing::{
-    parse_crl_der, parse_x509_crl, parse_x509_crl_located, parse_x509_crl_marked,
+    parse_crl_der, parse_x509_crl, parse_x509_crl_entries, parse_x509_crl_entries_located,
+    parse_x509_crl_entries_strict, parse_x509_crl_located, parse_x509_crl_marked,
     parse_x509_crl_strict,
 };
 pub use revoked_certificate::RevokedCertificate;
+pub use revoked_entries::RevokedEntries;
 pub use revoked_iter::RevokedIter;
 pub use tbs_cert_list::TbsCertList;
+pub use tbs_cert_list_entries::TbsCertListEntries;
 pub use x509_extensions::ExtensionIter;

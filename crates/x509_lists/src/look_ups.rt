@@ -11,8 +11,10 @@ ghost use Rattle.x509_names.specs.Objects as objects;
 ghost use Rattle.x509_extensions.specs.Lookups.{has_oid, oid_eq, all_distinct, first_said, crl_number_in, reason_code_in, invalidity_date_in};
 
 use crate::certificate_list::CertificateRevocationList;
+use crate::certificate_list_entries::CertificateListEntries;
 use crate::revoked_certificate::RevokedCertificate;
 use crate::tbs_cert_list::TbsCertList;
+use crate::tbs_cert_list_entries::TbsCertListEntries;
 use std::alloc::Global;
 use std::collections::HashMap;
 use std::hash::BuildHasher;
@@ -96,18 +98,62 @@ impl<'a> RevokedCertificate<'a> {
     }
 }
 
+impl<'a> TbsCertListEntries<'a> {
+    /// The first extension with this identifier.
+    pub fn find_extension(&self, oid: &Oid<'_>) -> Option<&X509Extension<'a>>
+        ensures { option_copied result ≡ find (has_oid (oid_bytes oid.now)) self.now.extensions }
+    {
+        x509_extensions::find_extension(self.extensions(), oid)
+    }
+
+    /// Each extension under its identifier.
+    ///
+    /// # Errors
+    ///
+    /// `DuplicateExtensions` where an identifier stands twice, and `OutOfMemory`.
+    pub fn extensions_map<S: BuildHasher + Drop>(
+        &self,
+        alloc: Global,
+        hasher: S,
+    ) -> Result<HashMap<Oid<'a>, &X509Extension<'a>, S>, X509Error>
+        ensures distinct { IfOk result (λ _. all_distinct self.now.extensions ≡ true) }
+        ensures entries { IfOk result (λ m. (q : OidOf) → option_copied (get oid_eq m q) ≡ find (has_oid (oid_bytes q)) self.now.extensions) }
+        ensures refused { IfErr result (λ e. (e ≡ OutOfMemory) ⊎ ((e ≡ DuplicateExtensions) × (all_distinct self.now.extensions ≡ false))) }
+    {
+        x509_extensions::extensions_map(alloc, self.extensions(), hasher)
+    }
+}
+
+// The number of a list with these extensions, as the first with that identifier says.
+fn crl_number_among<'v, 'a>(extensions: &'v [X509Extension<'a>]) -> Option<&'v UnsignedBytes<'a>>
+    ensures { option_map (λ number. number.now) result ≡ option_map (λ said. said.1) (first_said crl_number_in (find (has_oid objects.crl_number) extensions.now)) }
+{
+    let extension = x509_extensions::find_extension(
+        extensions,
+        &Oid::new(OID_X509_EXT_CRL_NUMBER),
+    )?;
+    match extension.parsed_extension() {
+        ParsedExtension::CRLNumber(number) => Some(number),
+        _ => None,
+    }
+}
+
 impl<'a> CertificateRevocationList<'a> {
     /// The number of the list (RFC 5280, section 5.2.3), as the first extension with that identifier says; none where its value
     /// can't be read.
     pub fn crl_number(&self) -> Option<&UnsignedBytes<'a>>
         ensures { option_map (λ number. number.now) result ≡ option_map (λ said. said.1) (first_said crl_number_in (find (has_oid objects.crl_number) self.now.tbs_cert_list.extensions)) }
     {
-        let extension = self
-            .tbs_cert_list
-            .find_extension(&Oid::new(OID_X509_EXT_CRL_NUMBER))?;
-        match extension.parsed_extension() {
-            ParsedExtension::CRLNumber(number) => Some(number),
-            _ => None,
-        }
+        crl_number_among(self.extensions())
+    }
+}
+
+impl<'a> CertificateListEntries<'a> {
+    /// The number of the list (RFC 5280, section 5.2.3), as the first extension with that identifier says; none where its value
+    /// can't be read.
+    pub fn crl_number(&self) -> Option<&UnsignedBytes<'a>>
+        ensures { option_map (λ number. number.now) result ≡ option_map (λ said. said.1) (first_said crl_number_in (find (has_oid objects.crl_number) self.now.tbs_cert_list.extensions)) }
+    {
+        crl_number_among(self.extensions())
     }
 }

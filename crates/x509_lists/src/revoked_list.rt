@@ -7,8 +7,9 @@ ghost use Rattle.x509_lists.specs.RevokedCertificate.{Revoked};
 ghost use Rattle.x509_lists.specs.RevokedList.{revoked_list_of, revoked_list, revoked_list_heads, revoked_list_laws};
 
 use crate::revoked_certificate::RevokedCertificate;
+use crate::tbs_parts::Entries;
 use std::alloc::Global;
-use x509_der::{FromDer, Outside, Place, Refused, Sequence, Tries, read_to_end};
+use x509_der::{Fields, FromDer, Outside, Place, Refused, Sequence, Tries, read_to_end};
 use x509_fields::{X509Error, sequence_at};
 
 /// Certificates that were revoked, in order. All of them are read or none is: where what stands in the SEQUENCE is no such
@@ -49,4 +50,16 @@ impl<'a> FromDer<'a, X509Error> for RevokedList<'a> {
     }
 
     ghost never_memory = { revoked_list_laws.laws.never_memory };
+}
+
+impl<'a> Entries<'a> for RevokedList<'a> {
+    ghost entries = { revoked_list_of };
+
+    fn read_next<L: Outside>(
+        alloc: Global,
+        tries: &mut Tries,
+        fields: &Fields<'a, L>,
+    ) -> Result<(Fields<'a, L>, Option<Self>), Refused<X509Error, L>> {
+        fields.soft(alloc, tries)
+    }
 }

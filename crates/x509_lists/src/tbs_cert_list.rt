@@ -6,14 +6,13 @@ ghost use Rattle.x509_der.specs.Reading.{strict};
 ghost use Rattle.x509_extensions.specs.ExtensionList.{extensions_left};
 ghost use Rattle.x509_lists.specs.TbsCertList.{TbsList, tbs_list_of, tbs_list_heads, tbs_list, tbs_list_laws};
 
-use crate::issue::read_issue;
-use crate::list_version::read_version;
 use crate::revoked_certificate::RevokedCertificate;
 use crate::revoked_list::RevokedList;
+use crate::tbs_parts::{TbsParts, read_parts};
 use std::alloc::Global;
-use x509_der::{Fields, FromDer, Outside, Place, Refused, Sequence, Tries};
-use x509_extensions::{ExtensionIter, X509Extension, X509ExtensionParser};
-use x509_fields::{ASN1Time, AlgorithmIdentifier, TryClone, X509Error, X509Version, sequence_at};
+use x509_der::{FromDer, Outside, Place, Refused, Sequence, Tries, ok};
+use x509_extensions::{ExtensionIter, X509Extension};
+use x509_fields::{ASN1Time, AlgorithmIdentifier, TryClone, X509Error, X509Version};
 use x509_names::X509Name;
 
 /// The part of a list that is signed (RFC 5280, section 5.1.2).
@@ -92,38 +91,25 @@ impl<'a> FromDer<'a, X509Error> for TbsCertList<'a> {
 
     ghost takes_memory = { true };
 
-    #[tactic(auto, unfolding(crate::specs::TbsCertList::tbs_list), using(x509_der::proofs::Marking::marks_of_readers))]
     fn read_at<L: Outside>(
         alloc: Global,
         tries: &mut Tries,
         place: &Place<'a, L>,
     ) -> Result<(Self, bool), Refused<X509Error, L>> {
-        let contents = sequence_at(place)?;
-        let fields = Fields::of(tries, &contents);
-        let (fields, version) = read_version(tries, &fields);
-        let (fields, issue) = match read_issue(alloc, tries, &fields) {
-            Ok((fields, issue)) => (fields, issue),
-            Err(e) => return Err(e),
-        };
-        let (fields, revoked) = match fields.soft(alloc, tries) {
-            Ok((fields, revoked)) => (fields, revoked),
-            Err(e) => return Err(e),
-        };
-        let parser = X509ExtensionParser::new();
-        let (extensions, extensions_plain) = match parser.read_wrapped_at(
-            alloc,
-            tries,
-            0,
-            &fields.place,
-        ) {
-            Ok((extensions, plain)) => (extensions, plain),
-            Err(e) => return Err(e),
-        };
+        let (
+            TbsParts {
+                version,
+                issue,
+                revoked,
+                extensions,
+                raw,
+            },
+            plain,
+        ) = ok!(read_parts(alloc, tries, place));
         let revoked_certificates = match revoked {
             Some(RevokedList { list }) => list,
             None => Sequence::new(alloc),
         };
-        let bytes = place.bytes();
         let tbs = TbsCertList {
             version,
             signature: issue.signature,
@@ -132,9 +118,9 @@ impl<'a> FromDer<'a, X509Error> for TbsCertList<'a> {
             next_update: issue.next_update,
             revoked_certificates,
             extensions,
-            raw: &bytes[..bytes.len() - place.rest().len()],
+            raw,
         };
-        Ok((tbs, fields.plain_so_far() & extensions_plain))
+        Ok((tbs, plain))
     }
 
     ghost never_memory = { tbs_list_laws.laws.never_memory };

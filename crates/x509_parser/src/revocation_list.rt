@@ -1,5 +1,6 @@
 //! Lists of revoked certificates (RFC 5280, section 5).
 
 pub use x509_lists::{
-    CertificateRevocationList, ExtensionIter, RevokedCertificate, RevokedIter, TbsCertList,
+    CertificateListEntries, CertificateRevocationList, EntriesIter, ExtensionIter,
+    RevokedCertificate, RevokedEntries, RevokedIter, TbsCertList, TbsCertListEntries,
 };

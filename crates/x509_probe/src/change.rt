@@ -20,7 +20,7 @@ pub struct Changes {
     /// Those that are taken.
     pub taken: u64,
     /// Of each promise, the inputs at which it is broken.
-    pub broken: [u64; 11],
+    pub broken: [u64; 13],
     /// Rows that can't be read.
     pub bad: u64,
 }
@@ -32,7 +32,7 @@ impl Changes {
             rows: 0,
             inputs: 0,
             taken: 0,
-            broken: [0; 11],
+            broken: [0; 13],
             bad: 0,
         }
     }
@@ -121,6 +121,24 @@ fn place_of(word: &str, i: &[u8], answer: &Answer) -> Result<(), Finding> {
     placed(i, answer.as_str(), located.as_str())
 }
 
+// The same of the reader that leaves a list's entries in their octets, where the word has one: it answers the same.
+fn entries_of(word: &str, i: &[u8], answer: &Answer) -> Result<(), Finding> {
+    let mut name = Answer::new(answer.alloc());
+    name.add(word);
+    name.add("_entries");
+    name.finish()?;
+    let mut other = Answer::new(answer.alloc());
+    if !answers::answer(name.as_str(), i, &[], &mut other) {
+        return Ok(());
+    }
+    other.finish()?;
+    if other.as_str() == answer.as_str() {
+        Ok(())
+    } else {
+        Err(Finding::Broken(Promise::Entries))
+    }
+}
+
 // What is promised of the structure that a word names.
 fn structure(alloc: Global, word: &str, i: &[u8]) -> Result<(), Finding> {
     match word {
@@ -144,6 +162,7 @@ fn seen(word: &str, i: &[u8], answer: &Answer) -> Result<bool, Finding> {
     answer.finish()?;
     told(i, answer.as_str())?;
     place_of(word, i, answer)?;
+    entries_of(word, i, answer)?;
     structure(answer.alloc(), word, i)?;
     Ok(answer.as_str().starts_with("ok"))
 }
@@ -185,20 +204,19 @@ fn try_input<W: Write>(
     changes: &mut Changes,
 ) -> io::Result<()> {
     changes.inputs = changes.inputs.saturating_add(1);
-    match look(alloc, row, i) {
+    let promise = match look(alloc, row, i) {
         Ok(taken) => {
             changes.taken = changes.taken.saturating_add(u64::from(taken));
-            Ok(())
+            return Ok(());
         }
-        Err(Finding::Memory) => Err(AllocError.into()),
-        Err(Finding::Broken(promise)) => {
-            changes.count(promise);
-            if changes.count_of(promise) == 1 {
-                return put_broken(writer, &line_of(alloc, row, i), promise);
-            }
-            Ok(())
-        }
+        Err(Finding::Memory) => Promise::Memory,
+        Err(Finding::Broken(promise)) => promise,
+    };
+    changes.count(promise);
+    if changes.count_of(promise) == 1 {
+        return put_broken(writer, &line_of(alloc, row, i), promise);
     }
+    Ok(())
 }
 
 // Sets the octet at a place, where there is one.

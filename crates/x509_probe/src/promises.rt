@@ -1,4 +1,4 @@
-//! What holds of every input, whatever is answered: windows, depths, strict readers, counts, copies and the index.
+//! What holds of every input, whatever is answered: windows, depths, strict readers, counts, copies, the index, and that memory suffices.
 
 use std::alloc::{AllocError, Global};
 use x509_parser::certificate::{X509Certificate, X509CertificateParser};
@@ -38,11 +38,15 @@ pub enum Promise {
     Element,
     /// The reader that tells the place of a refusal takes and refuses the same, at an octet of the input or behind its last.
     Places,
+    /// A list whose entries stay in their octets is read as one that keeps them.
+    Entries,
+    /// No answer is want of memory, and no text fails: where memory is short in truth, the line that says so isn't written either.
+    Memory,
 }
 
 impl Promise {
     /// All of them.
-    pub const ALL: [Promise; 11] = [
+    pub const ALL: [Promise; 13] = [
         Promise::Rest,
         Promise::Tries,
         Promise::Readers,
@@ -54,6 +58,8 @@ impl Promise {
         Promise::Index,
         Promise::Element,
         Promise::Places,
+        Promise::Entries,
+        Promise::Memory,
     ];
 
     /// What isn't as it should be, in words.
@@ -70,6 +76,8 @@ impl Promise {
             Promise::Index => "the index finds another entry",
             Promise::Element => "an element is another than its header says",
             Promise::Places => "a refusal with its place is another, or lies outside of the input",
+            Promise::Entries => "a list whose entries stay in their octets reads otherwise",
+            Promise::Memory => "memory is said to be short, or a text failed",
         }
     }
 
@@ -87,6 +95,8 @@ impl Promise {
             Promise::Index => 8,
             Promise::Element => 9,
             Promise::Places => 10,
+            Promise::Entries => 11,
+            Promise::Memory => 12,
         }
     }
 }

@@ -73,6 +73,21 @@ fn put_all(a: &[u8], out: &mut Answer) {
     }
 }
 
+// The octets of an identifier and its text; a copy that is another shows.
+fn put_owned(oid: &OidBuf, out: &mut Answer) {
+    out.hex(oid.as_bytes());
+    out.add(",");
+    out.display_hex(oid);
+    match oid.try_clone() {
+        Ok(copy) => {
+            if copy != *oid {
+                out.add(" COPY");
+            }
+        }
+        Err(_) => out.stop(),
+    }
+}
+
 // The octets of an identifier with this text, and its text again.
 fn put_parsed(a: &[u8], out: &mut Answer) {
     let Ok(text) = str::from_utf8(a) else {
@@ -80,16 +95,34 @@ fn put_parsed(a: &[u8], out: &mut Answer) {
         return;
     };
     match OidBuf::parse(out.alloc(), text) {
-        Ok(oid) => {
-            out.hex(oid.as_bytes());
-            out.add(",");
-            out.display_hex(&oid);
-        }
+        Ok(oid) => put_owned(&oid, out),
         Err(ParseOidError::OutOfMemory) => out.stop(),
         Err(kind) => {
             out.add("error ");
             out.debug(&kind);
         }
+    }
+}
+
+// The text of the error where a text names no identifier.
+fn put_parse_error(a: &[u8], out: &mut Answer) {
+    let Ok(text) = str::from_utf8(a) else {
+        out.add("no text");
+        return;
+    };
+    match OidBuf::parse(out.alloc(), text) {
+        Ok(_) => out.add("ok"),
+        Err(ParseOidError::OutOfMemory) => out.stop(),
+        Err(kind) => out.display(&kind),
+    }
+}
+
+// The text of why there is no object.
+fn put_no_object(a: &[u8], out: &mut Answer) {
+    match parse_object(out.alloc(), a) {
+        Ok(_) => out.add("ok"),
+        Err(NoObject::OutOfMemory) => out.stop(),
+        Err(why) => out.display(&why),
     }
 }
 
@@ -132,6 +165,8 @@ pub fn answer(word: &str, a: &[u8], out: &mut Answer) -> bool {
         "object_any" => put_any(a, out),
         "objects_in" => put_all(a, out),
         "oid_parse" => put_parsed(a, out),
+        "oid_parse_error" => put_parse_error(a, out),
+        "no_object_text" => put_no_object(a, out),
         "key_usage_names" => look_in::<KeyUsage, _>(out, &Names, a),
         "ns_cert_type_names" => look_in::<NSCertType, _>(out, &Names, a),
         "reason_flags_names" => look_in::<ReasonFlags, _>(out, &Names, a),

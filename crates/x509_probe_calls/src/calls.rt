@@ -1,8 +1,10 @@
 //! Numbers, identifiers and serials as texts, and certificates by calls of the facade.
 
 use crate::columns::put_read;
+use std::alloc::AllocError;
 use x509_parser::certificate::X509Certificate;
 use x509_parser::der::{Oid, UnsignedBytes};
+use x509_parser::paths::{Part, path_to};
 use x509_parser::utils::format_serial;
 use x509_parser::x509::X509Version;
 use x509_parser::{parse_x509_certificate, parse_x509_der};
@@ -40,6 +42,18 @@ fn put_serial(a: &[u8], out: &mut Answer) {
     match format_serial(out.alloc(), a) {
         Ok(text) => out.add(text.as_str()),
         Err(kind) => out.named_error(&kind),
+    }
+}
+
+// The names of the fields that lead to an octet of an object.
+fn put_path(object: Part, a: &[u8], octet: &[u8], out: &mut Answer) {
+    let Some(octet) = number_in(octet) else {
+        out.add("four bytes");
+        return;
+    };
+    match path_to(out.alloc(), object, a, octet as usize) {
+        Ok(text) => out.add(text.as_str()),
+        Err(AllocError) => out.stop(),
     }
 }
 
@@ -91,6 +105,9 @@ pub fn answer(word: &str, a: &[u8], b: &[u8], out: &mut Answer) -> bool {
         "format_serial" => put_serial(a, out),
         "parse" => put_parsed(a, out),
         "certificate_fields" => put_fields(a, out),
+        "certificate_path" => put_path(Part::Certificate, a, b, out),
+        "list_path" => put_path(Part::List, a, b, out),
+        "request_path" => put_path(Part::Request, a, b, out),
         _ => return false,
     }
     true

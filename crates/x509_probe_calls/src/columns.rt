@@ -3,16 +3,16 @@
 use std::alloc::AllocError;
 use std::io;
 use x509_parser::certificate::X509Certificate;
-use x509_parser::der::{Err, FromDer, Oid, UnsignedBytes};
+use x509_parser::der::{Err, FromDer, Oid, Reader, UnsignedBytes};
 use x509_parser::error::X509Error;
-use x509_parser::extensions::{ExtendedKeyUsage, GeneralName, X509Extension};
+use x509_parser::extensions::{ExtendedKeyUsage, GeneralName, X509Extension, X509ExtensionParser};
 use x509_parser::objects::registered_name;
 use x509_parser::signature_algorithm::{HashAlgorithm, signature_hash};
 use x509_parser::x509::{AlgorithmIdentifier, ReasonCode, SubjectPublicKeyInfo, X509Name};
 use x509_parser::{
     parse_x509_certificate_marked, parse_x509_crl_marked, parse_x509_csr, parse_x509_csr_marked,
 };
-use x509_probe_show::{Answer, Look, Show, look_in};
+use x509_probe_show::{Answer, Look, Show, look_at, look_in};
 
 // A text, in hex.
 fn put_text(out: &mut Answer, text: Result<String, AllocError>) {
@@ -88,6 +88,13 @@ impl Look<X509Extension<'_>> for Kind {
     fn look(&self, extension: &X509Extension<'_>, out: &mut Answer) {
         out.add(extension.parsed_extension().kind());
     }
+}
+
+// The same where the value isn't looked at.
+fn put_shallow_kind(a: &[u8], out: &mut Answer) {
+    let parser = X509ExtensionParser::new().with_deep_parse_extensions(false);
+    let read = parser.parse(out.alloc(), a);
+    look_at(out, &Kind, read);
 }
 
 /// The address of a general name, as a text.
@@ -203,6 +210,7 @@ pub fn answer(word: &str, a: &[u8], out: &mut Answer) -> bool {
         "signature_hash" => put_signed(a, out),
         "address" => look_in::<GeneralName, _>(out, &Address, a),
         "extension_kind" => look_in::<X509Extension, _>(out, &Kind, a),
+        "extension_kind_shallow" => put_shallow_kind(a, out),
         "reason_words" => put_reasons(out, a),
         "unsigned_text" => put_number(out, a),
         "registered_name" => put_registered(out, a),

@@ -6,6 +6,7 @@
 mod anything;
 mod calls;
 mod columns;
+mod constants;
 mod groups;
 mod keys;
 mod look_ups;
@@ -22,6 +23,7 @@ pub fn answer(word: &str, a: &[u8], b: &[u8], out: &mut Answer) -> bool {
         || anything::answer(word, a, out)
         || orders::answer(word, a, b, out)
         || columns::answer(word, a, out)
+        || constants::answer(word, a, out)
         || look_ups::answer(word, a, b, out)
         || groups::answer(word, a, out)
         || keys::answer(word, a, b, out)

@@ -7,10 +7,13 @@ use x509_parser::certificate::{
 };
 use x509_parser::certification_request::X509CertificationRequestInfo;
 use x509_parser::cri_attributes::ExtensionRequest;
-use x509_parser::der::{Oid, Reader, UnsignedBytes};
+use x509_parser::der::{FromDer, Oid, Reader, UnsignedBytes};
 use x509_parser::error::X509Error;
 use x509_parser::extensions::X509Extension;
-use x509_parser::revocation_list::{CertificateRevocationList, RevokedCertificate, TbsCertList};
+use x509_parser::revocation_list::{
+    CertificateRevocationList, RevokedCertificate, TbsCertList, TbsCertListEntries,
+};
+use x509_parser::x509::X509Name;
 use x509_probe_show::{Answer, Hasher, Look, Show, look_at, look_in, put_result};
 use x509_revoked::RevocationIndex;
 
@@ -184,6 +187,55 @@ impl Look<TbsCertList<'_>> for Serial<'_> {
     }
 }
 
+// A position and the entry there, where there is one.
+fn put_found(out: &mut Answer, found: Result<Option<(usize, RevokedCertificate<'_>)>, X509Error>) {
+    match found {
+        Ok(Some((position, entry))) => {
+            out.display(&position);
+            out.add(" ");
+            entry.show(out);
+        }
+        Ok(None) => out.add("-"),
+        Err(kind) => out.error(&kind),
+    }
+}
+
+/// The same in octets, and the entry.
+impl Look<TbsCertListEntries<'_>> for Serial<'_> {
+    fn look(&self, list: &TbsCertListEntries<'_>, out: &mut Answer) {
+        put_position(out, list.find_revoked(&self.0));
+        out.add(" ");
+        let entries = &list.revoked_certificates;
+        put_position(out, entries.position(&self.0));
+        out.add(" ");
+        put_found(out, entries.find(out.alloc(), &self.0));
+    }
+}
+
+/// The entry of an issuer's serial.
+#[derive(Drop)]
+struct IssuedBy<'n, 's> {
+    issuer: X509Name<'n>,
+    serial: UnsignedBytes<'s>,
+}
+
+impl Look<TbsCertListEntries<'_>> for IssuedBy<'_, '_> {
+    fn look(&self, list: &TbsCertListEntries<'_>, out: &mut Answer) {
+        put_found(out, list.find_for(out.alloc(), &self.issuer, &self.serial));
+    }
+}
+
+// The entry of the serial that stands behind its issuer's name.
+fn issued(out: &mut Answer, a: &[u8], b: &[u8]) {
+    match X509Name::from_der(out.alloc(), b) {
+        Ok((serial, issuer)) => {
+            let serial = UnsignedBytes::new(serial);
+            look_in::<TbsCertListEntries, _>(out, &IssuedBy { issuer, serial }, a);
+        }
+        Err(refusal) => out.refused(&refusal),
+    }
+}
+
 // A certificate without what the values of its extensions say.
 fn shallow(out: &mut Answer, a: &[u8], look: &LookUps<'_>) {
     let parser = X509CertificateParser::new().with_deep_parse_extensions(false);
@@ -204,6 +256,10 @@ pub fn answer(word: &str, a: &[u8], b: &[u8], out: &mut Answer) -> bool {
         "find_revoked" => {
             look_in::<TbsCertList, _>(out, &Serial(UnsignedBytes::new(b)), a);
         }
+        "find_entry" => {
+            look_in::<TbsCertListEntries, _>(out, &Serial(UnsignedBytes::new(b)), a);
+        }
+        "find_for" => issued(out, a, b),
         _ => return false,
     }
     true

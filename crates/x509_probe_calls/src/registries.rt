@@ -1,5 +1,6 @@
 //! Names by registries of identifiers.
 
+use x509_names::registry_full;
 use x509_parser::der::Oid;
 use x509_parser::error::{NidError, X509Error};
 use x509_parser::objects::{
@@ -57,6 +58,14 @@ fn put_own_words<'a>(oid: Oid<'a>, out: &mut Answer) {
     put_called(out, &oid, &own);
 }
 
+// The names of an identifier by the registry with the names in daily use.
+fn put_words_in_full(a: &[u8], out: &mut Answer) {
+    match registry_full(out.alloc()) {
+        Ok(table) => put_called(out, &Oid::new(a), &table),
+        Err(_) => out.stop(),
+    }
+}
+
 // The names of an identifier by the table, and by a registry of its own.
 fn put_words(a: &[u8], out: &mut Answer) {
     let oid = Oid::new(a);
@@ -110,6 +119,7 @@ impl Look<X509Name<'_>> for Registries<'_> {
 pub fn answer(word: &str, a: &[u8], b: &[u8], out: &mut Answer) -> bool {
     match word {
         "oid_words" => put_words(a, out),
+        "oid_words_full" => put_words_in_full(a, out),
         "name_registry" => look_in::<X509Name, _>(out, &Registries(Oid::new(b)), a),
         _ => return false,
     }

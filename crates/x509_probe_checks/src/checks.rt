@@ -61,32 +61,47 @@ fn run<'a, V: Validator<'a>>(out: &mut Answer, validator: &V, item: &V::Item, re
     put_report(out, validate_to_vec(alloc, validator, item));
 }
 
-// By closures, one for each level.
-fn by_closures<T: Validate>(out: &mut Answer, value: &T) {
+// By closures, one for each level, up to the warning or the error that is refused.
+fn put_closures<T: Validate>(out: &mut Answer, value: &T, warning: u32, error: u32) {
     let alloc = out.alloc();
-    out.add("|");
-    put_report(out, value.validate_to_vec(alloc));
-    let mut warnings = Recorder::new(alloc, 0);
-    let mut errors = Recorder::new(alloc, 0);
+    let mut warnings = Recorder::new(alloc, warning);
+    let mut errors = Recorder::new(alloc, error);
     let outcome = value.validate(
         alloc,
         |text| warnings.keep(" w", text),
         |text| errors.keep(" e", text),
     );
-    out.add("|");
     put_run(out, outcome, warnings.log());
     out.append(errors.log());
 }
 
-/// A writer that keeps what it takes, in hex. A logger says of a write that fails `Generic`; that there was no memory
-/// for it, what was kept tells.
+// By level, and by closures.
+fn by_closures<T: Validate>(out: &mut Answer, value: &T) {
+    out.add("|");
+    put_report(out, value.validate_to_vec(out.alloc()));
+    out.add("|");
+    put_closures(out, value, 0, 0);
+}
+
+/// A writer that keeps what it takes, in hex, up to the line that it refuses; 0 for none. A logger says of a write that fails `Generic`;
+/// that there was no memory for it, what was kept tells.
 #[derive(Drop)]
-struct InHex(Answer);
+struct InHex {
+    kept: Answer,
+    lines: u32,
+    refused: u32,
+}
 
 impl Write for InHex {
     fn write(&mut self, buf: &[u8]) -> io::Result<usize> {
-        self.0.hex(buf);
-        self.0.finish()?;
+        if buf.starts_with(b"[") {
+            self.lines = self.lines.wrapping_add(1);
+        }
+        if self.refused != 0 && self.lines == self.refused {
+            return Err(io::Error::from(ErrorKind::StorageFull));
+        }
+        self.kept.hex(buf);
+        self.kept.finish()?;
         Ok(buf.len())
     }
 
@@ -95,15 +110,19 @@ impl Write for InHex {
     }
 }
 
-// As lines of a writer.
-fn put_lines(out: &mut Answer, certificate: &X509Certificate<'_>) {
+// As lines of a writer, up to the line that it refuses.
+fn put_lines(out: &mut Answer, certificate: &X509Certificate<'_>, refused: u32) {
     let alloc = out.alloc();
-    let mut lines = InHex(Answer::new(alloc));
-    lines.0.add(" ");
+    let mut lines = InHex {
+        kept: Answer::new(alloc),
+        lines: 0,
+        refused,
+    };
+    lines.kept.add(" ");
     let mut logger = StderrLogger::new(&mut lines);
     let outcome = X509StructureValidator.validate(alloc, certificate, &mut logger);
     drop(logger);
-    put_run(out, outcome, &lines.0);
+    put_run(out, outcome, &lines.kept);
 }
 
 /// A writer that takes nothing.
@@ -285,8 +304,9 @@ impl Look<X509Certificate<'_>> for Asked<'_> {
             "check_certificate" => put_certificate(out, certificate, self.refused),
             "check_chain" => put_chained(out, certificate, self.refused),
             "check_closures" => put_stopped(out, certificate, self.refused),
+            "check_closed_errors" => put_closures(out, certificate, 0, self.refused),
             "check_untaken_lines" => put_untaken(out, certificate),
-            _ => put_lines(out, certificate),
+            _ => put_lines(out, certificate, self.refused),
         }
     }
 }
@@ -309,6 +329,7 @@ pub fn answer(word: &str, a: &[u8], b: &[u8], out: &mut Answer) -> bool {
         | "check_chain"
         | "check_lines"
         | "check_closures"
+        | "check_closed_errors"
         | "check_untaken_lines" => {
             look_in::<X509Certificate, _>(out, &Asked { word, refused }, a);
         }

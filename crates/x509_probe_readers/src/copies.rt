@@ -9,7 +9,10 @@ use x509_parser::extensions::{
     ExtendedKeyUsage, GeneralName, IssuerAlternativeName, IssuingDistributionPoint,
     NameConstraints, PolicyMappings, SubjectAlternativeName, SubjectInfoAccess, X509Extension,
 };
-use x509_parser::revocation_list::{CertificateRevocationList, RevokedCertificate, TbsCertList};
+use x509_parser::revocation_list::{
+    CertificateListEntries, CertificateRevocationList, RevokedCertificate, TbsCertList,
+    TbsCertListEntries,
+};
 use x509_parser::utils::TryClone;
 use x509_parser::x509::{RelativeDistinguishedName, X509Name};
 use x509_probe_show::{Answer, Look, Show, look_at};
@@ -38,6 +41,12 @@ impl<'a> Compare<CertificateRevocationList<'a>> for SignedPart {
         value: &CertificateRevocationList<'a>,
         copy: &CertificateRevocationList<'a>,
     ) -> bool {
+        copy.tbs_cert_list == value.tbs_cert_list
+    }
+}
+
+impl<'a> Compare<CertificateListEntries<'a>> for SignedPart {
+    fn is_equal(value: &CertificateListEntries<'a>, copy: &CertificateListEntries<'a>) -> bool {
         copy.tbs_cert_list == value.tbs_cert_list
     }
 }
@@ -105,6 +114,8 @@ pub fn answer(word: &str, a: &[u8], out: &mut Answer) -> bool {
         "copy_revoked_certificate" => copied::<RevokedCertificate, Whole>(a, out),
         "copy_extension_request" => copied::<ExtensionRequest, Whole>(a, out),
         "copy_crl" => copied::<CertificateRevocationList, SignedPart>(a, out),
+        "copy_crl_entries" => copied::<CertificateListEntries, SignedPart>(a, out),
+        "copy_tbs_cert_list_entries" => copied::<TbsCertListEntries, Whole>(a, out),
         "copy_attribute" => copied_attribute(a, out),
         _ => return false,
     }

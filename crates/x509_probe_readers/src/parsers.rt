@@ -6,6 +6,7 @@ use x509_parser::der::{Reader, Tries};
 use x509_parser::extensions::X509ExtensionParser;
 use x509_parser::{
     parse_crl_der, parse_x509_certificate_located, parse_x509_certificate_strict, parse_x509_crl,
+    parse_x509_crl_entries, parse_x509_crl_entries_located, parse_x509_crl_entries_strict,
     parse_x509_crl_located, parse_x509_crl_strict, parse_x509_csr_located, parse_x509_csr_strict,
 };
 use x509_probe_show::Answer;
@@ -103,6 +104,10 @@ fn calls(word: &str, i: &[u8], out: &mut Answer) -> bool {
             put_uncounted(out, i, parse_x509_certificate_strict(alloc, i));
         }
         "parse_crl" => put_uncounted(out, i, parse_x509_crl(alloc, i)),
+        "parse_crl_entries" => put_uncounted(out, i, parse_x509_crl_entries(alloc, i)),
+        "parse_crl_strict_entries" => {
+            put_uncounted(out, i, parse_x509_crl_entries_strict(alloc, i));
+        }
         "parse_crl_der" => put_uncounted(out, i, parse_crl_der(alloc, i)),
         "parse_crl_strict" => put_uncounted(out, i, parse_x509_crl_strict(alloc, i)),
         "parse_csr_strict" => put_uncounted(out, i, parse_x509_csr_strict(alloc, i)),
@@ -136,6 +141,9 @@ fn places(word: &str, i: &[u8], out: &mut Answer) -> bool {
             put_located(out, i, parse_x509_certificate_located(alloc, i));
         }
         "where_parse_crl" => put_located(out, i, parse_x509_crl_located(alloc, i)),
+        "where_parse_crl_entries" => {
+            put_located(out, i, parse_x509_crl_entries_located(alloc, i));
+        }
         "where_parse_csr" => put_located(out, i, parse_x509_csr_located(alloc, i)),
         _ => return false,
     }

@@ -24,7 +24,10 @@ use x509_parser::extensions::{
     parse_ct_signed_certificate_timestamp_list,
 };
 use x509_parser::public_key::RSAPublicKey;
-use x509_parser::revocation_list::{CertificateRevocationList, RevokedCertificate, TbsCertList};
+use x509_parser::revocation_list::{
+    CertificateListEntries, CertificateRevocationList, RevokedCertificate, TbsCertList,
+    TbsCertListEntries,
+};
 use x509_parser::signature_value::EcdsaSigValue;
 use x509_parser::time::ASN1Time;
 use x509_parser::x509::{
@@ -244,7 +247,9 @@ fn parts(how: How, word: &str, i: &[u8], out: &mut Answer) -> bool {
 fn structures(how: How, word: &str, i: &[u8], out: &mut Answer) -> bool {
     match word {
         "crl" => field::<CertificateRevocationList>(how, i, out),
+        "crl_entries" => field::<CertificateListEntries>(how, i, out),
         "tbs_cert_list" => field::<TbsCertList>(how, i, out),
+        "tbs_cert_list_entries" => field::<TbsCertListEntries>(how, i, out),
         "revoked_certificate" => field::<RevokedCertificate>(how, i, out),
         "csr" => field::<X509CertificationRequest>(how, i, out),
         "csr_info" => field::<X509CertificationRequestInfo>(how, i, out),

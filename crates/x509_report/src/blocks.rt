@@ -80,7 +80,8 @@ fn report_symbols<W: Write>(
     place: &Found<'_>,
     symbols: &[u8],
 ) -> Result<bool, Stop>
-    ensures lines { Tells result (W.contents printer.old.out) (W.contents printer.new.out) (symbols_told (asks_of asked.now) printer.old.form (found_of place.now) symbols.now).lines }
+    ensures lines { Tells result (W.contents printer.old.out) (W.contents printer.new.out)
+        (symbols_told (asks_of asked.now) printer.old.form (found_of place.now) symbols.now).lines }
     ensures taken { IfOk result (λ taken. taken ≡ (symbols_told (asks_of asked.now) printer.old.form (found_of place.now) symbols.now).taken) }
     ensures form { printer.new.form ≡ printer.old.form }
 {
@@ -107,7 +108,8 @@ fn report_wanted<W: Write>(
     place: &Found<'_>,
     block: &Block<'_>,
 ) -> Result<bool, Stop>
-    ensures lines { Tells result (W.contents printer.old.out) (W.contents printer.new.out) (whole_told (asks_of asked.now) printer.old.form (found_of place.now) block.now).lines }
+    ensures lines { Tells result (W.contents printer.old.out) (W.contents printer.new.out)
+        (whole_told (asks_of asked.now) printer.old.form (found_of place.now) block.now).lines }
     ensures taken { IfOk result (λ taken. taken ≡ (whole_told (asks_of asked.now) printer.old.form (found_of place.now) block.now).taken) }
     ensures form { printer.new.form ≡ printer.old.form }
 {
@@ -130,7 +132,8 @@ fn report_kind<W: Write>(
     block: &Block<'_>,
     kind: Option<Kind>,
 ) -> Result<bool, Stop>
-    ensures lines { Tells result (W.contents printer.old.out) (W.contents printer.new.out) (kind_told (asks_of asked.now) printer.old.form (found_of place.now) block.now kind).lines }
+    ensures lines { Tells result (W.contents printer.old.out) (W.contents printer.new.out)
+        (kind_told (asks_of asked.now) printer.old.form (found_of place.now) block.now kind).lines }
     ensures taken { IfOk result (λ taken. taken ≡ (kind_told (asks_of asked.now) printer.old.form (found_of place.now) block.now kind).taken) }
     ensures form { printer.new.form ≡ printer.old.form }
 {
@@ -156,7 +159,8 @@ pub fn report_block<W: Write>(
     index: usize,
     block: &Block<'_>,
 ) -> Result<bool, Stop>
-    ensures lines { Tells result (W.contents printer.old.out) (W.contents printer.new.out) (block_told (task_of asked.now printer.old.form file.now) index block.now).lines }
+    ensures lines { Tells result (W.contents printer.old.out) (W.contents printer.new.out)
+        (block_told (task_of asked.now printer.old.form file.now) index block.now).lines }
     ensures taken { IfOk result (λ taken. taken ≡ (block_told (task_of asked.now printer.old.form file.now) index block.now).taken) }
     ensures form { printer.new.form ≡ printer.old.form }
 {

@@ -1,7 +1,8 @@
 //! The objects of a file, in PEM or DER.
 
 ghost use Rattle.std.specs.Prelude.{◌≡◌, ◌++◌, ◌<◌, ◌^◌, IfOk, IfErr, IfSome, flat_map, length, map};
-ghost use Rattle.x509_report.specs.Files.{StopsInFile, TellsFile, blocks_told, choice, der_told, elements_told, may_be_der, neither_told, other_told, rest_told, task_of};
+ghost use Rattle.x509_report.specs.Files.{StopsInFile, TellsFile, blocks_told, choice, der_told, elements_told, may_be_der, neither_told, other_told};
+ghost use Rattle.x509_report.specs.Files.{rest_told, task_of};
 ghost use Rattle.x509_report.specs.Told.{Tells};
 ghost use Rattle.x509_report.specs.declared.stop.Stop.{Stop};
 
@@ -47,7 +48,8 @@ fn report_elements<W: Write>(
     elements: &[&[u8]],
 ) -> Result<bool, Stop>
     requires { length (flat_map (λ e. e.now) elements.now) < 2 ^ 64 }
-    ensures lines { Tells result (W.contents printer.old.out) (W.contents printer.new.out) (elements_told (task_of asked.now printer.old.form file.now) 0 0 (map (λ e. e.now) elements.now)).lines }
+    ensures lines { Tells result (W.contents printer.old.out) (W.contents printer.new.out)
+        (elements_told (task_of asked.now printer.old.form file.now) 0 0 (map (λ e. e.now) elements.now)).lines }
     ensures taken { IfOk result (λ taken. taken ≡ (elements_told (task_of asked.now printer.old.form file.now) 0 0 (map (λ e. e.now) elements.now)).taken) }
     ensures form { printer.new.form ≡ printer.old.form }
 {
@@ -76,7 +78,8 @@ fn report_rest<W: Write>(
     offset: usize,
     rest: &[u8],
 ) -> Result<bool, Stop>
-    ensures lines { Tells result (W.contents printer.old.out) (W.contents printer.new.out) (rest_told (task_of asked.now printer.old.form file.now) count offset rest.now).lines }
+    ensures lines { Tells result (W.contents printer.old.out) (W.contents printer.new.out)
+        (rest_told (task_of asked.now printer.old.form file.now) count offset rest.now).lines }
     ensures taken { IfOk result (λ taken. taken ≡ (rest_told (task_of asked.now printer.old.form file.now) count offset rest.now).taken) }
     ensures form { printer.new.form ≡ printer.old.form }
 {
@@ -103,8 +106,10 @@ fn report_der<W: Write>(
     rest: &[u8],
 ) -> Result<bool, Stop>
     requires parts { flat_map (λ e. e.now) elements.now ++ rest.now ≡ octets.now }
-    ensures lines { Tells result (W.contents printer.old.out) (W.contents printer.new.out) (der_told (task_of asked.now printer.old.form file.now) octets.now (map (λ e. e.now) elements.now) rest.now).lines }
-    ensures taken { IfOk result (λ taken. taken ≡ (der_told (task_of asked.now printer.old.form file.now) octets.now (map (λ e. e.now) elements.now) rest.now).taken) }
+    ensures lines { Tells result (W.contents printer.old.out) (W.contents printer.new.out)
+        (der_told (task_of asked.now printer.old.form file.now) octets.now (map (λ e. e.now) elements.now) rest.now).lines }
+    ensures taken { IfOk result (λ taken. taken ≡ (der_told (task_of asked.now printer.old.form file.now) octets.now
+        (map (λ e. e.now) elements.now) rest.now).taken) }
     ensures form { printer.new.form ≡ printer.old.form }
 {
     let all = report_elements(alloc, printer, asked, file, elements)?;
@@ -121,7 +126,8 @@ fn report_blocks<W: Write>(
     file: &str,
     blocks: &[Block<'_>],
 ) -> Result<bool, Stop>
-    ensures lines { Tells result (W.contents printer.old.out) (W.contents printer.new.out) (blocks_told (task_of asked.now printer.old.form file.now) 0 blocks.now).lines }
+    ensures lines { Tells result (W.contents printer.old.out) (W.contents printer.new.out)
+        (blocks_told (task_of asked.now printer.old.form file.now) 0 blocks.now).lines }
     ensures taken { IfOk result (λ taken. taken ≡ (blocks_told (task_of asked.now printer.old.form file.now) 0 blocks.now).taken) }
     ensures form { printer.new.form ≡ printer.old.form }
 {
@@ -140,7 +146,8 @@ fn report_neither<W: Write>(
     file: &str,
     octets: &[u8],
 ) -> Result<bool, Stop>
-    ensures lines { Tells result (W.contents printer.old.out) (W.contents printer.new.out) (neither_told (task_of asked.now printer.old.form file.now) octets.now).lines }
+    ensures lines { Tells result (W.contents printer.old.out) (W.contents printer.new.out)
+        (neither_told (task_of asked.now printer.old.form file.now) octets.now).lines }
     ensures taken { IfOk result (λ taken. taken ≡ (neither_told (task_of asked.now printer.old.form file.now) octets.now).taken) }
     ensures form { printer.new.form ≡ printer.old.form }
 {
@@ -169,7 +176,8 @@ fn report_other<W: Write>(
     file: &str,
     octets: &[u8],
 ) -> Result<bool, Stop>
-    ensures lines { Tells result (W.contents printer.old.out) (W.contents printer.new.out) (other_told (task_of asked.now printer.old.form file.now) octets.now).lines }
+    ensures lines { Tells result (W.contents printer.old.out) (W.contents printer.new.out)
+        (other_told (task_of asked.now printer.old.form file.now) octets.now).lines }
     ensures taken { IfOk result (λ taken. taken ≡ (other_told (task_of asked.now printer.old.form file.now) octets.now).taken) }
     ensures form { printer.new.form ≡ printer.old.form }
 {
@@ -194,8 +202,10 @@ fn report_parts<W: Write>(
     rest: &[u8],
 ) -> Result<bool, Stop>
     requires parts { flat_map (λ e. e.now) elements.now ++ rest.now ≡ octets.now }
-    ensures lines { Tells result (W.contents printer.old.out) (W.contents printer.new.out) (choice (task_of asked.now printer.old.form file.now) octets.now (map (λ e. e.now) elements.now) rest.now).lines }
-    ensures taken { IfOk result (λ taken. taken ≡ (choice (task_of asked.now printer.old.form file.now) octets.now (map (λ e. e.now) elements.now) rest.now).taken) }
+    ensures lines { Tells result (W.contents printer.old.out) (W.contents printer.new.out)
+        (choice (task_of asked.now printer.old.form file.now) octets.now (map (λ e. e.now) elements.now) rest.now).lines }
+    ensures taken { IfOk result (λ taken. taken ≡ (choice (task_of asked.now printer.old.form file.now) octets.now
+        (map (λ e. e.now) elements.now) rest.now).taken) }
     ensures form { printer.new.form ≡ printer.old.form }
 {
     if may_be_der(octets) && !elements.is_empty() {
@@ -215,7 +225,8 @@ pub fn report_file<W: Write>(
     octets: &[u8],
 ) -> Result<bool, Stop>
     ensures told { IfOk result (TellsFile (task_of asked.now printer.old.form file.now) octets.now (W.contents printer.old.out) (W.contents printer.new.out)) }
-    ensures stopped { IfErr result (λ stop. stop ≡ Stop.Memory → StopsInFile (task_of asked.now printer.old.form file.now) octets.now (W.contents printer.old.out) (W.contents printer.new.out)) }
+    ensures stopped { IfErr result (λ stop. stop ≡ Stop.Memory → StopsInFile (task_of asked.now printer.old.form file.now) octets.now
+        (W.contents printer.old.out) (W.contents printer.new.out)) }
     ensures form { printer.new.form ≡ printer.old.form }
 {
     let (elements, rest) = split_elements(alloc, octets)?;

@@ -29,7 +29,8 @@ fn report_entry<W: Write>(
     number: u64,
     entry: &RevokedCertificate<'_>,
 ) -> Result<(), Stop>
-    ensures lines { Tells result (W.contents printer.old.out) (W.contents printer.new.out) ((said printer.old.form (entry_report (found_of place.now) fingerprint.now number (revoked_of entry.now))) ∷ []) }
+    ensures lines { Tells result (W.contents printer.old.out) (W.contents printer.new.out)
+        ((said printer.old.form (entry_report (found_of place.now) fingerprint.now number (revoked_of entry.now))) ∷ []) }
     ensures form { printer.new.form ≡ printer.old.form }
 {
     let mut line = printer.line(alloc);
@@ -45,7 +46,8 @@ fn report_each<W: Write>(
     fingerprint: &Option<[u8; 32]>,
     entries: &[RevokedCertificate<'_>],
 ) -> Result<(), Stop>
-    ensures lines { Tells result (W.contents printer.old.out) (W.contents printer.new.out) (entry_lines printer.old.form (found_of place.now) fingerprint.now 0 (map revoked_of entries.now)) }
+    ensures lines { Tells result (W.contents printer.old.out) (W.contents printer.new.out)
+        (entry_lines printer.old.form (found_of place.now) fingerprint.now 0 (map revoked_of entries.now)) }
     ensures form { printer.new.form ≡ printer.old.form }
 {
     for (number, entry) in entries.iter().enumerate() {
@@ -73,7 +75,8 @@ fn report_entries<W: Write>(
     place: &Found<'_>,
     octets: &[u8],
 ) -> Result<(), Stop>
-    ensures lines { Tells result (W.contents printer.old.out) (W.contents printer.new.out) (list_lines printer.old.form fingerprints (found_of place.now) octets.now) }
+    ensures lines { Tells result (W.contents printer.old.out) (W.contents printer.new.out)
+        (list_lines printer.old.form fingerprints (found_of place.now) octets.now) }
     ensures form { printer.new.form ≡ printer.old.form }
 {
     let fingerprint = fingerprint(fingerprints, octets);
@@ -99,7 +102,8 @@ fn report_behind<W: Write>(
     octets: &[u8],
     kind: Option<Kind>,
 ) -> Result<(), Stop>
-    ensures lines { Tells result (W.contents printer.old.out) (W.contents printer.new.out) (lines_behind (asks_of asked.now) printer.old.form (found_of place.now) octets.now kind) }
+    ensures lines { Tells result (W.contents printer.old.out) (W.contents printer.new.out)
+        (lines_behind (asks_of asked.now) printer.old.form (found_of place.now) octets.now kind) }
     ensures form { printer.new.form ≡ printer.old.form }
 {
     match kind {
@@ -121,7 +125,8 @@ fn report_line<W: Write>(
     octets: &[u8],
 ) -> Result<Option<Kind>, Stop>
     ensures kind { IfOk result (λ kind. kind ≡ (object_told (wishes_of wishes.now) (found_of place.now) octets.now).0) }
-    ensures lines { Tells result (W.contents printer.old.out) (W.contents printer.new.out) ((said printer.old.form (object_told (wishes_of wishes.now) (found_of place.now) octets.now).1) ∷ []) }
+    ensures lines { Tells result (W.contents printer.old.out) (W.contents printer.new.out)
+        ((said printer.old.form (object_told (wishes_of wishes.now) (found_of place.now) octets.now).1) ∷ []) }
     ensures form { printer.new.form ≡ printer.old.form }
 {
     let mut line = printer.line(alloc);
@@ -138,7 +143,8 @@ pub fn report_object<W: Write>(
     place: &Found<'_>,
     octets: &[u8],
 ) -> Result<bool, Stop>
-    ensures lines { Tells result (W.contents printer.old.out) (W.contents printer.new.out) (lines_of_object (asks_of asked.now) printer.old.form (found_of place.now) octets.now).lines }
+    ensures lines { Tells result (W.contents printer.old.out) (W.contents printer.new.out)
+        (lines_of_object (asks_of asked.now) printer.old.form (found_of place.now) octets.now).lines }
     ensures taken { IfOk result (λ taken. taken ≡ (lines_of_object (asks_of asked.now) printer.old.form (found_of place.now) octets.now).taken) }
     ensures form { printer.new.form ≡ printer.old.form }
 {
@@ -157,8 +163,10 @@ pub fn report_failed<W: Write>(
     kind: &str,
     word: &str,
 ) -> Result<bool, Stop>
-    ensures lines { Tells result (W.contents printer.old.out) (W.contents printer.new.out) (one printer.old.form false (failed_report (wishes_of asked.now.wishes) (found_of place.now) octets.now kind.now word.now)).lines }
-    ensures taken { IfOk result (λ taken. taken ≡ (one printer.old.form false (failed_report (wishes_of asked.now.wishes) (found_of place.now) octets.now kind.now word.now)).taken) }
+    ensures lines { Tells result (W.contents printer.old.out) (W.contents printer.new.out)
+        (one printer.old.form false (failed_report (wishes_of asked.now.wishes) (found_of place.now) octets.now kind.now word.now)).lines }
+    ensures taken { IfOk result (λ taken. taken ≡ (one printer.old.form false
+        (failed_report (wishes_of asked.now.wishes) (found_of place.now) octets.now kind.now word.now)).taken) }
     ensures form { printer.new.form ≡ printer.old.form }
 {
     let mut line = printer.line(alloc);
@@ -175,8 +183,10 @@ pub fn report_skipped<W: Write>(
     place: &Found<'_>,
     octets: &[u8],
 ) -> Result<bool, Stop>
-    ensures lines { Tells result (W.contents printer.old.out) (W.contents printer.new.out) (one printer.old.form true (skipped_report (wishes_of asked.now.wishes) (found_of place.now) octets.now)).lines }
-    ensures taken { IfOk result (λ taken. taken ≡ (one printer.old.form true (skipped_report (wishes_of asked.now.wishes) (found_of place.now) octets.now)).taken) }
+    ensures lines { Tells result (W.contents printer.old.out) (W.contents printer.new.out)
+        (one printer.old.form true (skipped_report (wishes_of asked.now.wishes) (found_of place.now) octets.now)).lines }
+    ensures taken { IfOk result (λ taken. taken ≡ (one printer.old.form true
+        (skipped_report (wishes_of asked.now.wishes) (found_of place.now) octets.now)).taken) }
     ensures form { printer.new.form ≡ printer.old.form }
 {
     let mut line = printer.line(alloc);

@@ -1,7 +1,7 @@
 -- The line of an object: where it was found, and what the first reader says that takes it; or why none does.
-use Rattle.std.specs.Prelude.{ℕ, List, [], ◌∷◌, ◌++◌, codes, Bool, true, false, not, ◌&&◌, if◌then◌else◌, Option, Some, None, Result, Ok, Err, length}
+use Rattle.std.specs.Prelude.{ℕ, List, [], ◌∷◌, ◌++◌, codes, Bool, true, false, not, ◌&&◌, if◌then◌else◌, Option, Some, None, Result, Ok, Err, length, ◌-◌}
 use Rattle.json.specs.Json.{Json, array, boolean, string}
-use Rattle.x509_der.specs.Plan.{Outcome}
+use Rattle.x509_der.specs.Plan.{Outcome, added}
 use Rattle.x509_der.specs.Words.{refusal_word}
 use Rattle.x509_der.specs.declared.error.Err.{Err as Refusal}
 use Rattle.x509_der.specs.declared.error.Err.TheVariants as refusals
@@ -10,12 +10,16 @@ use Rattle.x509_fields.specs.declared.error.X509Error.TheVariants.{Generic}
 use Rattle.x509_report_objects.specs.declared.objects.Kind.{Kind}
 use Rattle.x509_report_objects.specs.declared.objects.Kind.TheVariants as kinds
 use Rattle.x509_fields.specs.Errors.{x509_word}
+use Rattle.x509_fields.specs.Fields.{Field}
 use Rattle.x509_certs.specs.Certificate.{Certificate, certificate}
 use Rattle.x509_lists.specs.CertificateList.{certificate_list}
 use Rattle.x509_lists.specs.TbsCertList.{TbsList}
 use Rattle.x509_requests.specs.Request.{certification_request}
 use Rattle.x509_requests.specs.RequestInfo.{RequestInfo}
 use Rattle.x509_fields.specs.Signed.{Signed}
+use Rattle.x509_paths.specs.declared.part.Part.{Part}
+use Rattle.x509_paths.specs.declared.part.Part.TheVariants as parts
+use Rattle.x509_paths.specs.Paths.{deepest, path}
 use Rattle.x509_report_lines.specs.Says.{count, items_of, list_of, optional, record_of}
 use Rattle.x509_report_objects.specs.Certificates.{certificate_members}
 use Rattle.x509_report_objects.specs.Errors.{refusal_name}
@@ -33,39 +37,65 @@ object_report kind w p octets plain rest members = record_of (
 
 -- ---- which report stands for an object: that of the first reader that takes it
 
--- what was tried, and why it failed
-abbrev pub attempt_report : List ℕ → Option (List ℕ) → List ℕ → Json
-attempt_report kind error word = record_of ((codes "kind", string kind) ∷ (codes "error", optional (λ s. string s) error) ∷ (codes "word", string word) ∷ [])
+-- why a reader refuses, and at which of the octets that it was given
+pub record Refused : Type 0 where
+  pub why : Refusal X509Error
+  pub at : ℕ
 
--- a reader that was tried, and why it refuses
-abbrev pub tried_report : List ℕ × Refusal X509Error → Json
-tried_report r = attempt_report r.0 (Some (refusal_name r.1)) (refusal_word x509_word r.1)
+-- the octet at which the grammar refuses: what is left there is not read
+abbrev pub refused_at : {A : Type 0} → Field A → List ℕ → ℕ
+refused_at field octets = length octets - field.stop added octets 0
 
-abbrev pub tried_by : List ℕ → Option (Refusal X509Error) → List (List ℕ × Refusal X509Error)
-tried_by kind (Some e) = (kind, e) ∷ []
-tried_by kind None = []
+-- what was tried, why it failed, at which octet, and the path of fields that leads there
+abbrev pub attempt_report : List ℕ → Option (List ℕ) → List ℕ → Option ℕ → Option (List ℕ) → Json
+attempt_report kind error word at path = record_of (
+    (codes "kind", string kind) ∷
+    (codes "error", optional (λ s. string s) error) ∷
+    (codes "word", string word) ∷
+    (codes "at", optional count at) ∷
+    (codes "path", optional (λ s. string s) path) ∷ [])
+
+-- a text that has a character
+abbrev pub some_text : List ℕ → Option (List ℕ)
+some_text [] = None
+some_text (c ∷ cs) = Some (c ∷ cs)
+
+-- a reader of a kind that was tried, and why it refuses
+pub record Attempted : Type 0 where
+  pub kind : List ℕ
+  pub part : Part
+  pub refused : Refused
+
+abbrev pub tried_report : List ℕ → Attempted → Json
+tried_report octets a =
+    attempt_report a.kind (Some (refusal_name a.refused.why)) (refusal_word x509_word a.refused.why) (Some a.refused.at) (some_text (path deepest a.part octets a.refused.at []))
+
+abbrev pub tried_by : List ℕ → Part → Option Refused → List Attempted
+tried_by kind part (Some e) = record { kind = kind; part = part; refused = e } ∷ []
+tried_by kind part None = []
 
 -- of each kind, why its reader refuses where it was tried
 pub record Tried : Type 0 where
-  pub certificate : Option (Refusal X509Error)
-  pub list : Option (Refusal X509Error)
-  pub request : Option (Refusal X509Error)
+  pub certificate : Option Refused
+  pub list : Option Refused
+  pub request : Option Refused
 
-abbrev pub all_tried : Tried → List (List ℕ × Refusal X509Error)
-all_tried t = tried_by (codes "certificate") t.certificate ++ tried_by (codes "list") t.list ++ tried_by (codes "request") t.request
+abbrev pub all_tried : Tried → List Attempted
+all_tried t =
+    tried_by (codes "certificate") parts.Certificate t.certificate ++ tried_by (codes "list") parts.List t.list ++ tried_by (codes "request") parts.Request t.request
 
 unfoldable pub refusal_report : Wishes → Found → List ℕ → Tried → Json
 refusal_report w p octets tried = record_of (
     place_members (codes "refusal") p
     ++ octets_members w.fingerprints p octets
-    ++ (codes "tried", list_of tried_report (all_tried tried)) ∷ [])
+    ++ (codes "tried", list_of (tried_report octets) (all_tried tried)) ∷ [])
 
 -- of octets that no reader was given: what failed before
 unfoldable pub failed_report : Wishes → Found → List ℕ → List ℕ → List ℕ → Json
 failed_report w p octets kind word = record_of (
     place_members (codes "refusal") p
     ++ octets_members w.fingerprints p octets
-    ++ (codes "tried", array (items_of (attempt_report kind None word ∷ []))) ∷ [])
+    ++ (codes "tried", array (items_of (attempt_report kind None word None None ∷ []))) ∷ [])
 
 -- of a block that holds none of the objects that are wanted, by its label
 unfoldable pub skipped_report : Wishes → Found → List ℕ → Json
@@ -73,30 +103,36 @@ skipped_report w p octets = record_of (place_members (codes "skipped") p ++ octe
 
 -- what a reader says of the octets, or why it refuses
 abbrev pub Told : Type 0
-Told = Result Json (Refusal X509Error)
+Told = Result Json Refused
 
--- where only plain objects are wanted, another is refused as the strict readers refuse it
+-- where only plain objects are wanted, another is refused as the strict readers refuse it, at its front
+abbrev pub not_plain : Refused
+not_plain = record { why = refusals.Error Generic; at = 0 }
+
 abbrev pub told_by : Wishes → Bool → Json → Told
-told_by w plain report = if w.strict && not plain then Err (refusals.Error Generic) else Ok report
+told_by w plain report = if w.strict && not plain then Err not_plain else Ok report
+
+abbrev pub refused_told : {A : Type 0} → Field A → List ℕ → Refusal X509Error → Told
+refused_told field octets e = Err (record { why = e; at = refused_at field octets })
 
 abbrev pub certificate_told : Wishes → Found → List ℕ → Outcome (Refusal X509Error) Certificate → Told
 certificate_told w p octets (Ok x) = told_by w ((certificate true).marks octets) (object_report (codes "certificate") w p octets ((certificate true).marks octets) x.0 (certificate_members w.fingerprints x.1))
-certificate_told w p octets (Err e) = Err e
+certificate_told w p octets (Err e) = refused_told (certificate true) octets e
 
 abbrev pub list_told : Wishes → Found → List ℕ → Outcome (Refusal X509Error) (Signed TbsList) → Told
 list_told w p octets (Ok x) = told_by w (certificate_list.marks octets) (object_report (codes "list") w p octets (certificate_list.marks octets) x.0 (list_members x.1))
-list_told w p octets (Err e) = Err e
+list_told w p octets (Err e) = refused_told certificate_list octets e
 
 abbrev pub request_told : Wishes → Found → List ℕ → Outcome (Refusal X509Error) (Signed RequestInfo) → Told
 request_told w p octets (Ok x) = told_by w (certification_request.marks octets) (object_report (codes "request") w p octets (certification_request.marks octets) x.0 (request_members w.fingerprints x.1))
-request_told w p octets (Err e) = Err e
+request_told w p octets (Err e) = refused_told certification_request octets e
 
 -- the reader's report with its kind, or what comes next behind its refusal
-abbrev pub or_next : Kind → Told → (Option (Refusal X509Error) → Option Kind × Json) → Option Kind × Json
+abbrev pub or_next : Kind → Told → (Option Refused → Option Kind × Json) → Option Kind × Json
 or_next kind (Ok report) next = (Some kind, report)
 or_next kind (Err e) next = next (Some e)
 
-abbrev pub first_of : Bool → Kind → Told → (Option (Refusal X509Error) → Option Kind × Json) → Option Kind × Json
+abbrev pub first_of : Bool → Kind → Told → (Option Refused → Option Kind × Json) → Option Kind × Json
 first_of true kind told next = or_next kind told next
 first_of false kind told next = next None
 

@@ -10,7 +10,8 @@ ghost use Rattle.x509_report_lines.specs.Says.{Says, SaysEach, SaysMembers, Says
 ghost use Rattle.x509_report_values.specs.Algorithms.{bits_report};
 ghost use Rattle.x509_der.specs.Promises.{option_view};
 ghost use Rattle.x509_der.specs.Unsigned.{unsigned_bytes};
-ghost use Rattle.x509_report_objects.specs.Certificates.{certificate_members, head_members, key_members, name_members, serial_report, tail_members, texts_report, validator_report, version_report};
+ghost use Rattle.x509_report_objects.specs.Certificates.{certificate_members, head_members, key_members, name_members, serial_report, tail_members};
+ghost use Rattle.x509_report_objects.specs.Certificates.{texts_report, validator_report, version_report};
 ghost use Rattle.x509_validators.specs.SignedPart.{signed_part_messages, is_signed_part_sound};
 
 use crate::extensions::extensions_under;
@@ -83,7 +84,8 @@ fn say_validator(
     out: &mut Line,
     certificate: &X509Certificate<'_>,
 ) -> Result<(), AllocError>
-    ensures { Says result out.old out.new (validator_report (is_signed_part_sound (certificate_of certificate.now).tbs) (signed_part_messages (certificate_of certificate.now).tbs)) }
+    ensures { Says result out.old out.new (validator_report (is_signed_part_sound (certificate_of certificate.now).tbs)
+        (signed_part_messages (certificate_of certificate.now).tbs)) }
 {
     let (accepts, warnings, errors) = certificate.validate_to_vec(alloc)?;
     out.begin_object()?;
@@ -167,7 +169,8 @@ fn validator_under(
     key: &str,
     certificate: &X509Certificate<'_>,
 ) -> Result<(), AllocError>
-    ensures { SaysUnder result out.old out.new key.now (validator_report (is_signed_part_sound (certificate_of certificate.now).tbs) (signed_part_messages (certificate_of certificate.now).tbs)) }
+    ensures { SaysUnder result out.old out.new key.now (validator_report (is_signed_part_sound (certificate_of certificate.now).tbs)
+        (signed_part_messages (certificate_of certificate.now).tbs)) }
 {
     out.key(key)?;
     say_validator(alloc, out, certificate)

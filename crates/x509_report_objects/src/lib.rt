@@ -10,6 +10,6 @@ mod requests;
 mod summary;
 
 pub use certificates::certificate_members;
-pub use lists::{entry_line, list_members};
+pub use lists::{entry_line, first_parsed, list_members};
 pub use objects::{Found, Kind, Wishes, failed_line, object_line, skipped_line};
 pub use requests::request_members;

@@ -10,7 +10,8 @@ ghost use Rattle.x509_report_lines.specs.Says.{Says, SaysMembers, SaysUnder, cou
 ghost use Rattle.x509_names.specs.Objects as objects;
 ghost use Rattle.x509_report_objects.specs.Attempts.{found_of};
 ghost use Rattle.x509_report_objects.specs.Extensions.{extension_report};
-ghost use Rattle.x509_report_objects.specs.Lists.{content_members, entry_members, entry_report, first_parsed, invalidity_in, list_head_members, list_members, list_tail_members, number_members, number_report, reason_in, update_members};
+ghost use Rattle.x509_report_objects.specs.Lists.{content_members, entry_members, entry_report, first_parsed, invalidity_in, list_head_members};
+ghost use Rattle.x509_report_objects.specs.Lists.{list_members, list_tail_members, number_members, number_report, reason_in, update_members};
 
 use crate::certificates::{say_serial, version_under};
 use crate::extensions::extensions_under;
@@ -22,8 +23,8 @@ use x509_names::{OID_X509_EXT_CRL_NUMBER, OID_X509_EXT_INVALIDITY_DATE, OID_X509
 use x509_report_lines::Line;
 use x509_report_values::{count_under, hex_under, null_under, optional_under, value_under};
 
-/// What the first extension with this identifier says.
-fn first_parsed<'v, 'a>(
+/// What the first extension with this identifier says, whose contents octets these are; none where no extension has it.
+pub fn first_parsed<'v, 'a>(
     id: &[u8],
     extensions: &'v [X509Extension<'a>],
 ) -> Option<&'v ParsedExtension<'a>>

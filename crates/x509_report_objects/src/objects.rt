@@ -6,27 +6,30 @@ ghost use Rattle.x509_certs.specs.Certificate.{certificate, certificate_of};
 ghost use Rattle.x509_lists.specs.CertificateList.{certificate_list, list_of};
 ghost use Rattle.x509_requests.specs.Request.{certification_request, certification_request_of};
 ghost use Rattle.x509_report_lines.specs.Says.{Says, SaysEach, SaysMembers, SaysUnder, count, items_of, list_of as array_of, optional, written};
-ghost use Rattle.x509_report_objects.specs.Objects.{all_tried, attempt_report, certificate_told, failed_report, list_told, object_told, object_report, refusal_report, request_told, skipped_report, standing_members, tried_by, tried_report};
+ghost use Rattle.x509_report_objects.specs.Objects.{all_tried, attempt_report, certificate_told, failed_report, list_told, object_told};
+ghost use Rattle.x509_report_objects.specs.Objects.{object_report, refusal_report, request_told, skipped_report, some_text, standing_members, tried_by};
+ghost use Rattle.x509_report_objects.specs.Objects.{tried_report};
 ghost use Rattle.x509_report_objects.specs.Certificates.{certificate_members};
 ghost use Rattle.x509_report_objects.specs.Lists.{list_members};
 ghost use Rattle.x509_report_objects.specs.Requests.{request_members};
 ghost use Rattle.x509_report_objects.specs.Places.{octets_members, place_members};
-ghost use Rattle.x509_report_objects.specs.Attempts.{Attempts, found_of, tried_of, wishes_of};
+ghost use Rattle.x509_report_objects.specs.Attempts.{Attempts, found_of, refused_of, tried_of, wishes_of};
 
 use crate::certificates::certificate_members;
 use crate::errors::refusal_name;
 use crate::lists::list_members;
 use crate::requests::request_members;
 use std::alloc::{AllocError, Global};
-use x509_certs::{X509Certificate, parse_x509_certificate_marked};
-use x509_der::Err;
+use x509_certs::{X509Certificate, parse_x509_certificate_located, parse_x509_certificate_marked};
+use x509_der::{Err, Located};
 use x509_fields::X509Error;
-use x509_lists::{CertificateRevocationList, parse_x509_crl_marked};
+use x509_lists::{CertificateRevocationList, parse_x509_crl_located, parse_x509_crl_marked};
+use x509_paths::{Part, path_to};
 use x509_report_lines::Line;
 use x509_report_values::{
-    count_under, fingerprint_under, optional_text_under, text_under, truth_under,
+    count_under, fingerprint_under, null_under, optional_text_under, text_under, truth_under,
 };
-use x509_requests::{X509CertificationRequest, parse_x509_csr_marked};
+use x509_requests::{X509CertificationRequest, parse_x509_csr_located, parse_x509_csr_marked};
 
 /// Where an object was found.
 #[derive(Clone, Copy, Debug)]
@@ -75,22 +78,25 @@ struct Seen<'a> {
     plain: bool,
 }
 
-/// What a reader says to whom only plain objects are wanted, where one isn't.
-const NOT_PLAIN: Err<X509Error> = Err::Error(X509Error::Generic);
+/// What a reader says of whom only plain objects are wanted, where one isn't.
+const NOT_PLAIN: Located<X509Error> = Located {
+    why: Err::Error(X509Error::Generic),
+    at: 0,
+};
 
 /// What came of a reader: it took the object, or it didn't, with its refusal where it was tried.
 #[derive(Clone, Copy)]
 enum Attempt {
     Taken,
-    Left(Option<Err<X509Error>>),
+    Left(Option<Located<X509Error>>),
 }
 
 /// Of each kind, why its reader refuses where it was tried.
 #[derive(Clone, Copy)]
 struct Tried {
-    certificate: Option<Err<X509Error>>,
-    list: Option<Err<X509Error>>,
-    request: Option<Err<X509Error>>,
+    certificate: Option<Located<X509Error>>,
+    list: Option<Located<X509Error>>,
+    request: Option<Located<X509Error>>,
 }
 
 /// How many octets there are, under a key.
@@ -152,7 +158,8 @@ fn say_certificate(
     seen: &Seen<'_>,
     certificate: &X509Certificate<'_>,
 ) -> Result<(), AllocError>
-    ensures { Says result out.old out.new (object_report (codes "certificate") (wishes_of wishes.now) (found_of place.now) seen.now.octets.now seen.now.plain seen.now.rest.now (certificate_members wishes.now.fingerprints (certificate_of certificate.now))) }
+    ensures { Says result out.old out.new (object_report (codes "certificate") (wishes_of wishes.now) (found_of place.now) seen.now.octets.now seen.now.plain
+        seen.now.rest.now (certificate_members wishes.now.fingerprints (certificate_of certificate.now))) }
 {
     out.begin_object()?;
     say_place(out, "certificate", place)?;
@@ -171,7 +178,8 @@ fn try_certificate(
     place: &Found<'_>,
     octets: &[u8],
 ) -> Result<Attempt, AllocError>
-    ensures { IfOk result (λ a. Attempts wishes.now.certificates (certificate_told (wishes_of wishes.now) (found_of place.now) octets.now ((certificate true).read octets.now)) out.old out.new a) }
+    ensures { IfOk result (λ a. Attempts wishes.now.certificates (certificate_told (wishes_of wishes.now) (found_of place.now) octets.now
+        ((certificate true).read octets.now)) out.old out.new a) }
 {
     if !wishes.certificates {
         return Ok(Attempt::Left(None));
@@ -192,7 +200,10 @@ fn try_certificate(
         Err(e) => if e.is_out_of_memory() {
             Err(AllocError)
         } else {
-            Ok(Attempt::Left(Some(e)))
+            match parse_x509_certificate_located(alloc, octets) {
+                Err(refusal) if !refusal.why.is_out_of_memory() => Ok(Attempt::Left(Some(refusal))),
+                _ => Err(AllocError),
+            }
         },
     }
 }
@@ -207,7 +218,8 @@ fn say_list(
     seen: &Seen<'_>,
     list: &CertificateRevocationList<'_>,
 ) -> Result<(), AllocError>
-    ensures { Says result out.old out.new (object_report (codes "list") (wishes_of wishes.now) (found_of place.now) seen.now.octets.now seen.now.plain seen.now.rest.now (list_members (list_of list.now))) }
+    ensures { Says result out.old out.new (object_report (codes "list") (wishes_of wishes.now) (found_of place.now) seen.now.octets.now seen.now.plain
+        seen.now.rest.now (list_members (list_of list.now))) }
 {
     out.begin_object()?;
     say_place(out, "list", place)?;
@@ -226,7 +238,8 @@ fn try_list(
     place: &Found<'_>,
     octets: &[u8],
 ) -> Result<Attempt, AllocError>
-    ensures { IfOk result (λ a. Attempts wishes.now.lists (list_told (wishes_of wishes.now) (found_of place.now) octets.now (certificate_list.read octets.now)) out.old out.new a) }
+    ensures { IfOk result (λ a. Attempts wishes.now.lists (list_told (wishes_of wishes.now) (found_of place.now) octets.now
+        (certificate_list.read octets.now)) out.old out.new a) }
 {
     if !wishes.lists {
         return Ok(Attempt::Left(None));
@@ -247,7 +260,10 @@ fn try_list(
         Err(e) => if e.is_out_of_memory() {
             Err(AllocError)
         } else {
-            Ok(Attempt::Left(Some(e)))
+            match parse_x509_crl_located(alloc, octets) {
+                Err(refusal) if !refusal.why.is_out_of_memory() => Ok(Attempt::Left(Some(refusal))),
+                _ => Err(AllocError),
+            }
         },
     }
 }
@@ -262,7 +278,8 @@ fn say_request(
     seen: &Seen<'_>,
     request: &X509CertificationRequest<'_>,
 ) -> Result<(), AllocError>
-    ensures { Says result out.old out.new (object_report (codes "request") (wishes_of wishes.now) (found_of place.now) seen.now.octets.now seen.now.plain seen.now.rest.now (request_members wishes.now.fingerprints (certification_request_of request.now))) }
+    ensures { Says result out.old out.new (object_report (codes "request") (wishes_of wishes.now) (found_of place.now) seen.now.octets.now seen.now.plain
+        seen.now.rest.now (request_members wishes.now.fingerprints (certification_request_of request.now))) }
 {
     out.begin_object()?;
     say_place(out, "request", place)?;
@@ -281,7 +298,8 @@ fn try_request(
     place: &Found<'_>,
     octets: &[u8],
 ) -> Result<Attempt, AllocError>
-    ensures { IfOk result (λ a. Attempts wishes.now.requests (request_told (wishes_of wishes.now) (found_of place.now) octets.now (certification_request.read octets.now)) out.old out.new a) }
+    ensures { IfOk result (λ a. Attempts wishes.now.requests (request_told (wishes_of wishes.now) (found_of place.now) octets.now
+        (certification_request.read octets.now)) out.old out.new a) }
 {
     if !wishes.requests {
         return Ok(Attempt::Left(None));
@@ -302,60 +320,111 @@ fn try_request(
         Err(e) => if e.is_out_of_memory() {
             Err(AllocError)
         } else {
-            Ok(Attempt::Left(Some(e)))
+            match parse_x509_csr_located(alloc, octets) {
+                Err(refusal) if !refusal.why.is_out_of_memory() => Ok(Attempt::Left(Some(refusal))),
+                _ => Err(AllocError),
+            }
         },
     }
 }
 
-/// What was tried, and why it failed.
+/// The octet at which a reader refuses, under a key; null where no reader was asked.
+fn octet_under(out: &mut Line, key: &str, at: Option<usize>) -> Result<(), AllocError>
+    ensures { SaysUnder result out.old out.new key.now (optional count at) }
+{
+    match at {
+        Some(at) => count_under(out, key, at as u64),
+        None => null_under(out, key),
+    }
+}
+
+/// What was tried, why it failed, at which octet, and the path that leads there.
 fn say_attempt(
     out: &mut Line,
     kind: &str,
     error: Option<&str>,
     word: &str,
+    at: Option<usize>,
+    path: Option<&str>,
 ) -> Result<(), AllocError>
-    ensures { Says result out.old out.new (attempt_report kind.now (option_map (λ s. s.now) error.entry) word.now) }
+    ensures { Says result out.old out.new (attempt_report kind.now (option_map (λ s. s.now) error.entry) word.now at (option_map (λ s. s.now) path.entry)) }
 {
     out.begin_object()?;
     text_under(out, "kind", kind)?;
     optional_text_under(out, "error", error)?;
     text_under(out, "word", word)?;
+    octet_under(out, "at", at)?;
+    optional_text_under(out, "path", path)?;
     out.end_object()?;
     Ok(())
 }
 
+/// A text, where it has a character.
+fn some_text(text: &str) -> Option<&str>
+    ensures { option_map (λ s. s.now) result ≡ some_text text.now }
+{
+    if text.is_empty() { None } else { Some(text) }
+}
+
 /// A reader that was tried, where it was, and why it refuses.
 fn say_refused(
+    alloc: Global,
     out: &mut Line,
+    octets: &[u8],
     kind: &str,
-    refusal: Option<Err<X509Error>>,
+    part: Part,
+    refusal: Option<Located<X509Error>>,
 ) -> Result<(), AllocError>
-    ensures { SaysEach result out.old out.new tried_report (tried_by kind.now refusal) }
+    ensures { SaysEach result out.old out.new (tried_report octets.now) (tried_by kind.now part (option_map refused_of refusal)) }
 {
     match refusal {
-        Some(refusal) => say_attempt(out, kind, Some(refusal_name(&refusal)), refusal.word()),
+        Some(Located { why, at }) => {
+            let path = path_to(alloc, part, octets, at)?;
+            let error = refusal_name(&why);
+            say_attempt(
+                out,
+                kind,
+                Some(error),
+                why.word(),
+                Some(at),
+                some_text(path.as_str()),
+            )
+        }
         None => Ok(()),
     }
 }
 
 /// The readers that were tried, one after another.
 #[tactic(auto, using(crate::proofs::Attempted::each_of_three))]
-fn say_tried(out: &mut Line, tried: &Tried) -> Result<(), AllocError>
-    ensures { SaysEach result out.old out.new tried_report (all_tried (tried_of tried.now)) }
+fn say_tried(alloc: Global, out: &mut Line, octets: &[u8], tried: &Tried) -> Result<(), AllocError>
+    ensures { SaysEach result out.old out.new (tried_report octets.now) (all_tried (tried_of tried.now)) }
 {
-    say_refused(out, "certificate", tried.certificate)?;
-    say_refused(out, "list", tried.list)?;
-    say_refused(out, "request", tried.request)
+    say_refused(
+        alloc,
+        out,
+        octets,
+        "certificate",
+        Part::Certificate,
+        tried.certificate,
+    )?;
+    say_refused(alloc, out, octets, "list", Part::List, tried.list)?;
+    say_refused(alloc, out, octets, "request", Part::Request, tried.request)
 }
 
 /// What was tried in vain, under a key.
 #[tactic(auto, using(x509_report_lines::proofs::Written::list_written))]
-fn tried_under(out: &mut Line, key: &str, tried: &Tried) -> Result<(), AllocError>
-    ensures { SaysUnder result out.old out.new key.now (array_of tried_report (all_tried (tried_of tried.now))) }
+fn tried_under(
+    alloc: Global,
+    out: &mut Line,
+    key: &str,
+    octets: &[u8],
+    tried: &Tried,
+) -> Result<(), AllocError>
+    ensures { SaysUnder result out.old out.new key.now (array_of (tried_report octets.now) (all_tried (tried_of tried.now))) }
 {
     out.key(key)?;
     out.begin_array()?;
-    say_tried(out, tried)?;
+    say_tried(alloc, out, octets, tried)?;
     out.end_array()?;
     Ok(())
 }
@@ -375,18 +444,18 @@ fn say_refusal(
     out.begin_object()?;
     say_place(out, "refusal", place)?;
     say_octets(alloc, out, wishes.fingerprints, place, octets)?;
-    tried_under(out, "tried", tried)?;
+    tried_under(alloc, out, "tried", octets, tried)?;
     out.end_object()?;
     Ok(())
 }
 
 /// What was tried by other means than a reader of objects, under a key.
 fn attempt_under(out: &mut Line, key: &str, kind: &str, word: &str) -> Result<(), AllocError>
-    ensures { SaysUnder result out.old out.new key.now (array (items_of (attempt_report kind.now None word.now ∷ []))) }
+    ensures { SaysUnder result out.old out.new key.now (array (items_of (attempt_report kind.now None word.now None None ∷ []))) }
 {
     out.key(key)?;
     out.begin_array()?;
-    say_attempt(out, kind, None, word)?;
+    say_attempt(out, kind, None, word, None, None)?;
     out.end_array()?;
     Ok(())
 }

@@ -59,7 +59,8 @@ fn push_all_revoked(
     text: &mut String,
     revoked: &[RevokedCertificate<'_>],
 ) -> Result<(), Stop>
-    ensures { MatchResult result (λ _. string_bytes text.new ≡ string_bytes text.old ++ flat_map revoked_line (map revoked_of revoked.now)) (λ stop. stop ≡ Memory) }
+    ensures { MatchResult result (λ _. string_bytes text.new ≡ string_bytes text.old ++ flat_map revoked_line (map revoked_of revoked.now))
+        (λ stop. stop ≡ Memory) }
 {
     for one in revoked {
         push_revoked(alloc, text, one)?;

@@ -1,6 +1,12 @@
 -- What a user concludes of an input and of what was read.
-use Rattle.std.specs.Prelude.{◌≡◌, ℕ, List, true, ◌≤ℤ◌}
+use Rattle.std.specs.Prelude.{◌≡◌, ℕ, ◌+◌, List, [], length, true, ◌≤ℤ◌}
 use Rattle.x509_der.specs.Promises.{IsFront}
+use Rattle.x509_der.specs.Words.{refusal_word}
+use Rattle.x509_der.specs.declared.error.Err.{Err as Refusal}
+use Rattle.x509_fields.specs.Errors.{x509_word}
+use Rattle.x509_fields.specs.declared.error.X509Error.{X509Error}
+use Rattle.x509_paths.specs.Paths.{deepest, path}
+use Rattle.x509_paths.specs.declared.part.Part.TheVariants as parts
 use Rattle.x509_fields.specs.Times.{instant_of}
 use Rattle.x509_fields.specs.declared.time.asn1_time.ASN1Time.{ASN1Time}
 use Rattle.x509_certs.specs.declared.validity.Validity.{Validity}
@@ -20,3 +26,11 @@ HoldsTwo input first second rest = (behind : List ℕ) × IsFront (certificate t
 -- the instant of the time lies between both ends or is one of them
 abbrev pub IsValidAt : Validity → ASN1Time → Type 0
 IsValidAt validity time = (instant_of validity.not_before ≤ℤ instant_of time) × (instant_of time ≤ℤ instant_of validity.not_after)
+
+-- the grammar of certificates refuses the input at this octet, for a reason with these words
+abbrev pub IsFault : List ℕ → ℕ → List ℕ → Type 0
+IsFault input at word = (why : Refusal X509Error) × (left : ℕ) × (certificate true).Refuses input why left × (at + left ≡ length input) × (word ≡ refusal_word x509_word why)
+
+-- the fields that lead to such an octet have these names
+abbrev pub IsPathToFault : List ℕ → List ℕ → Type 0
+IsPathToFault input names = (at : ℕ) × (word : List ℕ) × IsFault input at word × (names ≡ path deepest parts.Certificate input at [])

@@ -1,7 +1,9 @@
 //! Looking up whether a certificate is revoked.
 
-use x509_parser::der::UnsignedBytes;
+use std::alloc::Global;
+use x509_parser::der::{Err, UnsignedBytes};
 use x509_parser::error::X509Error;
+use x509_parser::parse_x509_crl_entries;
 use x509_parser::revocation_list::{CertificateRevocationList, RevokedCertificate};
 use x509_revoked::RevocationIndex;
 
@@ -26,4 +28,17 @@ pub fn count_revoked(
             .filter(|serial| index.find(*serial).is_some())
             .count(),
     )
+}
+
+/// The position and the entry of a serial on a list of any length, which stays in its octets.
+pub fn entry_in_octets<'a>(
+    alloc: Global,
+    octets: &'a [u8],
+    serial: &UnsignedBytes<'_>,
+) -> Result<Option<(usize, RevokedCertificate<'a>)>, Err<X509Error>> {
+    let (_, list) = parse_x509_crl_entries(alloc, octets)?;
+    list.tbs_cert_list
+        .revoked_certificates
+        .find(alloc, serial)
+        .map_err(Err::Failure)
 }

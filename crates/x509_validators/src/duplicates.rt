@@ -62,7 +62,8 @@ fn check_new<'a, L: Logger>(
 ) -> Result<bool, X509Error>
     requires { L.can_log logger.old }
     ensures can { L.can_log logger.new }
-    ensures logs { (ids : List (List ℕ)) → IsSetOf ids seen.old → Logs L.step logger.old (repeat_error label.now ids (oid_bytes oid.entry)) (is_new ids (oid_bytes oid.entry)) result logger.new }
+    ensures logs { (ids : List (List ℕ)) → IsSetOf ids seen.old → Logs L.step logger.old (repeat_error label.now ids (oid_bytes oid.entry))
+        (is_new ids (oid_bytes oid.entry)) result logger.new }
     ensures seen { (ids : List (List ℕ)) → IsSetOf ids seen.old → OnOk result (IsSetOf (ids ++ oid_bytes oid.entry ∷ []) seen.new) }
 {
     let Ok(new) = seen.insert(oid) else {

@@ -10,7 +10,9 @@ ghost use Rattle.x509_validators.specs.Message.{Logs};
 ghost use Rattle.x509_values.specs.KeyUsage.{key_usage_of};
 ghost use Rattle.x509_values.specs.Policies.{policy_of};
 ghost use Rattle.x509_validators.specs.Duplicates.{all_distinct};
-ghost use Rattle.x509_validators.specs.Extensions.{critical_errors, has_one, pair_warnings, key_identifier_messages, policy_ids, policy_errors, usage_errors, value_messages, is_sound_value, extension_ids, extension_messages, is_sound_extension, extension_errors, extensions_messages, are_sound};
+ghost use Rattle.x509_validators.specs.Extensions.{critical_errors, has_one, pair_warnings, key_identifier_messages, policy_ids, policy_errors};
+ghost use Rattle.x509_validators.specs.Extensions.{usage_errors, value_messages, is_sound_value, extension_ids, extension_messages};
+ghost use Rattle.x509_validators.specs.Extensions.{is_sound_extension, extension_errors, extensions_messages, are_sound};
 
 use crate::alternative_names::check_names;
 use crate::duplicates::{Identified, check_duplicates};
@@ -67,7 +69,8 @@ pub(crate) fn check_extensions<L: Logger>(
 ) -> Result<bool, X509Error>
     requires { L.can_log logger.old }
     ensures can { L.can_log logger.new }
-    ensures logs { Logs L.step logger.old (extensions_messages (map extension_of extensions.now)) (are_sound (map extension_of extensions.now)) result logger.new }
+    ensures logs { Logs L.step logger.old (extensions_messages (map extension_of extensions.now))
+        (are_sound (map extension_of extensions.now)) result logger.new }
 {
     let distinct = check_identifiers(alloc, extensions, logger)?;
     let sound = check_values(alloc, extensions, logger)?;
@@ -82,7 +85,8 @@ fn check_identifiers<L: Logger>(
 ) -> Result<bool, X509Error>
     requires { L.can_log logger.old }
     ensures can { L.can_log logger.new }
-    ensures logs { Logs L.step logger.old (extension_errors (map extension_of extensions.now)) (all_distinct (extension_ids (map extension_of extensions.now))) result logger.new }
+    ensures logs { Logs L.step logger.old (extension_errors (map extension_of extensions.now))
+        (all_distinct (extension_ids (map extension_of extensions.now))) result logger.new }
 {
     check_duplicates(alloc, "Duplicate extension ", extensions, logger)
 }
@@ -95,7 +99,8 @@ fn check_values<L: Logger>(
 ) -> Result<bool, X509Error>
     requires { L.can_log logger.old }
     ensures can { L.can_log logger.new }
-    ensures logs { Logs L.step logger.old (flat_map extension_messages (map extension_of extensions.now)) (list_all is_sound_extension (map extension_of extensions.now)) result logger.new }
+    ensures logs { Logs L.step logger.old (flat_map extension_messages (map extension_of extensions.now))
+        (list_all is_sound_extension (map extension_of extensions.now)) result logger.new }
 {
     let mut sound = true;
     for extension in extensions {
@@ -111,7 +116,8 @@ fn check_extension<L: Logger>(
 ) -> Result<bool, X509Error>
     requires { L.can_log logger.old }
     ensures can { L.can_log logger.new }
-    ensures logs { Logs L.step logger.old (extension_messages (extension_of extension.now)) (is_sound_extension (extension_of extension.now)) result logger.new }
+    ensures logs { Logs L.step logger.old (extension_messages (extension_of extension.now))
+        (is_sound_extension (extension_of extension.now)) result logger.new }
 {
     let value = extension.parsed_extension();
     check_value(alloc, extension.critical, value, logger)
@@ -156,7 +162,8 @@ fn check_policies<L: Logger>(
 ) -> Result<bool, X509Error>
     requires { L.can_log logger.old }
     ensures can { L.can_log logger.new }
-    ensures logs { Logs L.step logger.old (policy_errors (map policy_of policies.now)) (all_distinct (policy_ids (map policy_of policies.now))) result logger.new }
+    ensures logs { Logs L.step logger.old (policy_errors (map policy_of policies.now))
+        (all_distinct (policy_ids (map policy_of policies.now))) result logger.new }
 {
     let label = "Certificate Policies: duplicate policy ";
     check_duplicates(alloc, label, policies, logger)

@@ -29,7 +29,8 @@ pub(crate) fn check_readings<L: Logger>(
 ) -> Result<bool, X509Error>
     requires { L.can_log logger.old }
     ensures can { L.can_log logger.new }
-    ensures logs { Logs L.step logger.old (flat_map reading_messages (map extension_of extensions.now)) (list_all is_readable (map extension_of extensions.now)) result logger.new }
+    ensures logs { Logs L.step logger.old (flat_map reading_messages (map extension_of extensions.now))
+        (list_all is_readable (map extension_of extensions.now)) result logger.new }
 {
     let mut readable = true;
     for extension in extensions {
@@ -83,7 +84,8 @@ fn check_refusal<L: Logger>(
 ) -> Result<bool, X509Error>
     requires { L.can_log logger.old }
     ensures can { L.can_log logger.new }
-    ensures logs { Logs L.step logger.old (refusal_errors (oid_bytes oid.now) (error_in (parsed_of value.now))) (not (is_some (error_in (parsed_of value.now)))) result logger.new }
+    ensures logs { Logs L.step logger.old (refusal_errors (oid_bytes oid.now) (error_in (parsed_of value.now)))
+        (not (is_some (error_in (parsed_of value.now)))) result logger.new }
 {
     match value.error() {
         None => Ok(true),

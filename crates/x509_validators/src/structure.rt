@@ -4,7 +4,9 @@ ghost use Rattle.std.specs.Prelude.{◌≡◌};
 ghost use Rattle.x509_certs.specs.TbsCertificate.{tbs_of};
 ghost use Rattle.x509_validators.specs.Message.{Logs};
 ghost use Rattle.x509_validators.specs.Serial.{serial_messages, is_there};
-ghost use Rattle.x509_validators.specs.SignedPart.{number_messages, are_numbers_sound, party_messages, is_key_sound, field_messages, are_fields_sound, uids_warnings, extension_part_messages, are_extensions_sound, signed_part_messages, is_signed_part_sound};
+ghost use Rattle.x509_validators.specs.SignedPart.{number_messages, are_numbers_sound, party_messages, is_key_sound, field_messages};
+ghost use Rattle.x509_validators.specs.SignedPart.{are_fields_sound, uids_warnings, extension_part_messages, are_extensions_sound};
+ghost use Rattle.x509_validators.specs.SignedPart.{signed_part_messages, is_signed_part_sound};
 
 use crate::alternative_names::check_names_in;
 use crate::logger::Logger;

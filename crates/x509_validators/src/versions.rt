@@ -74,7 +74,8 @@ pub(crate) fn check_presence<L: Logger>(
 ) -> Result<bool, X509Error>
     requires { L.can_log logger.old }
     ensures can { L.can_log logger.new }
-    ensures logs { Logs L.step logger.old (presence_errors (may_have version.0 (map extension_of extensions.now))) (may_have version.0 (map extension_of extensions.now)) result logger.new }
+    ensures logs { Logs L.step logger.old (presence_errors (may_have version.0 (map extension_of extensions.now)))
+        (may_have version.0 (map extension_of extensions.now)) result logger.new }
 {
     let allowed = may_have(version, extensions);
     report_presence(alloc, allowed, logger)?;

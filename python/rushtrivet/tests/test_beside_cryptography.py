@@ -34,6 +34,7 @@ def values(name: Any) -> Optional[List[Any]]:
 
 
 @unittest.skipIf(x509 is None, "cryptography isn't installed")
+@unittest.skipUnless(hasattr(getattr(x509, "Certificate", None), "not_valid_after_utc"), "cryptography is older than 42")
 class Beside(unittest.TestCase):
     def setUp(self) -> None:
         self.seen: Set[str] = set()
@@ -99,9 +100,80 @@ class Beside(unittest.TestCase):
                 self.assertEqual(one.raw, value.value)
             elif isinstance(value, (x509.PolicyConstraints, x509.InhibitAnyPolicy, x509.CRLNumber)):
                 self.same_fields(one.value, value)
+            elif isinstance(value, x509.ExtendedKeyUsage):
+                self.assertEqual({str(use) for use in one.value}, {use.dotted_string for use in value})
+                self.seen.add("ExtendedKeyUsage")
+            elif isinstance(value, x509.SubjectKeyIdentifier):
+                self.assertEqual(one.value.digest, value.digest)
+                self.seen.add("SubjectKeyIdentifier")
+            elif isinstance(value, x509.AuthorityKeyIdentifier):
+                self.same_authority(one.value, value)
+            elif isinstance(value, x509.CertificatePolicies):
+                self.same_policies(one.value, value)
+            elif isinstance(value, (x509.AuthorityInformationAccess, x509.SubjectInformationAccess)):
+                self.assertEqual(type(one.value).__name__, type(value).__name__)
+                methods = [each.access_method.dotted_string for each in value]
+                self.assertEqual([str(each.access_method) for each in one.value], methods)
+                self.same_general_names(
+                    [each.access_location for each in one.value], [each.access_location for each in value]
+                )
+                self.seen.add(type(one.value).__name__)
+            elif isinstance(value, (x509.CRLDistributionPoints, x509.FreshestCRL)):
+                self.same_points(one.value, value)
+            elif isinstance(value, x509.NameConstraints):
+                self.same_general_names(one.value.permitted_subtrees, value.permitted_subtrees)
+                self.same_general_names(one.value.excluded_subtrees, value.excluded_subtrees)
+                self.seen.add("NameConstraints")
+            elif isinstance(value, x509.PrecertificateSignedCertificateTimestamps):
+                self.assertEqual(
+                    [(each.log_id, each.timestamp_utc.replace(tzinfo=None)) for each in one.value],
+                    [(each.log_id, each.timestamp) for each in value],
+                )
+                self.seen.add("PrecertificateSignedCertificateTimestamps")
+            elif isinstance(value, x509.DeltaCRLIndicator):
+                self.same_fields(one.value, value)
             elif isinstance(value, x509.IssuingDistributionPoint):
                 self.same_point(one.value, value)
         return len(mine)
+
+    def same_general_names(self, mine: Any, theirs: Any) -> None:
+        """The same names, in the same order; None where there are none."""
+        self.assertEqual(mine is None, theirs is None)
+        self.assertEqual(len(mine or ()), len(theirs or ()))
+        for one, other in zip(mine or (), theirs or ()):
+            self.assertEqual(type(one).__name__, type(other).__name__)
+            if isinstance(one, rushtrivet.DirectoryName):
+                self.assertEqual(values(one.value), values(other.value))
+            elif isinstance(one, rushtrivet.OtherName):
+                self.assertEqual(str(one.type_id), other.type_id.dotted_string)
+            else:
+                self.assertEqual(str(one.value), str(getattr(other.value, "dotted_string", other.value)))
+
+    def same_authority(self, mine: Any, theirs: Any) -> None:
+        self.assertEqual(mine.key_identifier, theirs.key_identifier)
+        self.assertEqual(mine.authority_cert_serial_number, theirs.authority_cert_serial_number)
+        self.same_general_names(mine.authority_cert_issuer, theirs.authority_cert_issuer)
+        self.seen.add("AuthorityKeyIdentifier")
+
+    def same_policies(self, mine: Any, theirs: Any) -> None:
+        self.assertEqual(
+            [(str(one.policy_identifier), len(one.policy_qualifiers)) for one in mine],
+            [(one.policy_identifier.dotted_string, len(one.policy_qualifiers or ())) for one in theirs],
+        )
+        self.seen.add("CertificatePolicies")
+
+    def same_points(self, mine: Any, theirs: Any) -> None:
+        self.assertEqual(len(mine), len(theirs))
+        for one, other in zip(mine, theirs):
+            self.same_general_names(one.full_name, other.full_name)
+            self.same_general_names(one.crl_issuer, other.crl_issuer)
+            if one.relative_name is not None:  # the library reads it only with the header of a SET
+                self.assertEqual(values(one.relative_name), values(other.relative_name))
+            mine_reasons, reasons = [
+                None if each is None else {flag.value for flag in each} for each in (one.reasons, other.reasons)
+            ]
+            self.assertEqual(mine_reasons, reasons)
+        self.seen.add(type(mine).__name__)
 
     def same_fields(self, mine: Any, theirs: Any) -> None:
         """The fields of my class have the same values in theirs."""
@@ -117,18 +189,13 @@ class Beside(unittest.TestCase):
         reasons = [None if one is None else {flag.value for flag in one} for one in
                    (mine.only_some_reasons, theirs.only_some_reasons)]  # fmt: skip
         self.assertEqual(*reasons)
-        self.assertEqual(mine.full_name is None, theirs.full_name is None)
-        for one, other in zip(mine.full_name or (), theirs.full_name or ()):
-            self.assertEqual(type(one).__name__, type(other).__name__)
-            if isinstance(one, rushtrivet.DirectoryName):
-                self.assertEqual(values(one.value), values(other.value))
-            else:
-                self.assertEqual(one.value, other.value)
+        self.same_general_names(mine.full_name, theirs.full_name)
         if mine.relative_name is not None:  # the library reads it only with the header of a SET
             self.assertEqual(values(mine.relative_name), values(theirs.relative_name))
         self.seen.add(type(mine).__name__)
 
-    def same_entry(self, mine: Any, theirs: Any) -> None:
+    def same_entry(self, entry: Any, theirs: Any) -> None:
+        mine = entry.extensions
         self.assertEqual(
             [(one.oid.dotted_string, one.critical) for one in mine],
             [(one.oid.dotted_string, one.critical) for one in theirs],
@@ -136,6 +203,7 @@ class Beside(unittest.TestCase):
         for one, other in zip(mine, theirs):
             if isinstance(other.value, x509.CRLReason):
                 self.assertEqual(one.value.reason.value, other.value.reason.value)
+                self.assertEqual(entry.reason, one.value.reason)
                 self.seen.add("CRLReason")
             elif isinstance(other.value, x509.InvalidityDate):
                 date = other.value.invalidity_date
@@ -200,7 +268,10 @@ class Beside(unittest.TestCase):
                 if found is not None:
                     self.assertEqual(mine.hosts, found)
         self.assertTrue(read > 20 and names > 40 and extensions > 100 and keys > 20, (read, names, extensions, keys))
-        self.assertLessEqual({"PolicyConstraints", "InhibitAnyPolicy", "hash"}, self.seen)
+        kinds = {"PolicyConstraints", "InhibitAnyPolicy", "ExtendedKeyUsage", "SubjectKeyIdentifier", "hash"}
+        kinds |= {"AuthorityKeyIdentifier", "CertificatePolicies", "AuthorityInformationAccess", "NameConstraints"}
+        kinds |= {"CRLDistributionPoints", "PrecertificateSignedCertificateTimestamps"}
+        self.assertLessEqual(kinds, self.seen)
 
     def test_lists(self) -> None:
         read = 0
@@ -224,7 +295,7 @@ class Beside(unittest.TestCase):
                 self.assertEqual(mine.tbs_certlist_bytes, theirs.tbs_certlist_bytes)
                 self.same_hash(mine, theirs)
                 for one, other in zip(mine, theirs):
-                    self.same_entry(one.extensions, other.extensions)
+                    self.same_entry(one, other.extensions)
                 for entry in theirs:
                     found = mine.get_revoked_certificate_by_serial_number(entry.serial_number)
                     self.assertEqual(found.serial_number, entry.serial_number)

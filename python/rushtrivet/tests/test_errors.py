@@ -83,7 +83,7 @@ class Refusals(unittest.TestCase):
 
 class Library(unittest.TestCase):
     def test_version(self) -> None:
-        self.assertRegex(x509.library_version, r"^0\.1\.\d+$")
+        self.assertRegex(x509.library_version, r"^0\.2\.\d+$")
 
     def test_other_files(self) -> None:
         for file in ("no/such/file.so", __file__):

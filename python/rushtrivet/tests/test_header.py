@@ -6,7 +6,7 @@ import shutil
 import subprocess
 import tempfile
 import unittest
-from ctypes import POINTER, c_bool, c_char_p, c_int64, c_size_t, c_uint32, c_void_p
+from ctypes import POINTER, c_bool, c_char_p, c_int64, c_size_t, c_uint32, c_uint64, c_void_p
 from pathlib import Path
 
 from rushtrivet import Status, _library
@@ -18,7 +18,9 @@ FIELDS = {
     "size_t ": c_size_t,
     "int64_t ": c_int64,
     "uint32_t ": c_uint32,
+    "uint64_t ": c_uint64,
     "rtv_bytes ": _library.Bytes,
+    "rtv_general_name ": _library.GeneralNameRow,
 }
 
 ARGUMENTS = {
@@ -28,6 +30,7 @@ ARGUMENTS = {
     "size_t *": POINTER(c_size_t),
     "uint32_t *": POINTER(c_uint32),
     "bool ": c_bool,
+    "int64_t *": POINTER(c_int64),
     "rtv_status ": c_uint32,
     "uint32_t ": c_uint32,
 }

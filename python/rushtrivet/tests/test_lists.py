@@ -7,7 +7,7 @@ import unittest
 import rushtrivet as x509
 from rushtrivet._objects import serial_contents
 
-from .inputs import crl, extension, files
+from .inputs import ALGORITHM, BITS, JANUARY, crl, der, extension, files, name, sequence
 
 
 def serials(count: int) -> list:
@@ -42,6 +42,28 @@ class Lists(unittest.TestCase):
         self.assertIsNone(found.get_revoked_certificate_by_serial_number(1))
         index = x509.Index(crl([]))
         self.assertEqual((len(index), index.find(1)), (0, None))
+
+    def test_extensions_of_entries(self) -> None:
+        """Of many entries with none, one and more extensions each has its own, also where none could be read of one."""
+        one = extension([2, 5, 29, 21], der(10, b"\4"))
+        other = [extension([2, 5, 99, number], bytes([number])) for number in range(3)]
+        bad = sequence(der(2, b"\1"))
+        kinds = [b"", sequence(one), sequence(*other), sequence(other[1], one), sequence(bad)]
+        entries = [sequence(der(2, bytes([number])), JANUARY, kinds[number % 5]) for number in range(1, 120)]
+        signed = sequence(der(2, b"\1"), ALGORITHM, name(der(12, b"issuer")), JANUARY, sequence(*entries))
+        found = x509.load_crl(sequence(signed, ALGORITHM, BITS))
+        lengths = {0: 0, 1: 1, 2: 3, 3: 2, 4: 0}
+        for number, entry in enumerate(found, 1):
+            self.assertEqual(entry.serial_number, number)
+            self.assertEqual(len(entry.extensions), lengths[number % 5])
+            self.assertEqual(entry.reason_code, 4 if number % 5 in (1, 3) else None)
+            if entry.extensions:
+                self.assertEqual(sequence(*map(self.written, entry.extensions)), entry.raw_extensions)
+            by_serial = found.get_revoked_certificate_by_serial_number(number)
+            self.assertEqual((by_serial, list(by_serial.extensions)), (entry, list(entry.extensions)))
+
+    def written(self, found: x509.Extension) -> bytes:
+        return extension([int(arc) for arc in str(found.oid).split(".")], found.raw, found.critical)
 
     def test_extensions(self) -> None:
         made = [extension([2, 5, 99, number], bytes([number])) for number in range(60)]

@@ -7,11 +7,26 @@ import pickle
 import threading
 import unittest
 from datetime import datetime, timezone
+from typing import Any
 
 import rushtrivet as x509
 from rushtrivet import ExtensionOID, NameOID, ObjectIdentifier
 
-from .inputs import ALGORITHM, BITS, JANUARY, KEY, certificate, crl, der, extension, name, oid, request, sequence
+from .inputs import (
+    ALGORITHM,
+    BITS,
+    JANUARY,
+    KEY,
+    certificate,
+    crl,
+    der,
+    extension,
+    files,
+    name,
+    oid,
+    request,
+    sequence,
+)
 
 
 def with_names(*names: bytes) -> x509.Certificate:
@@ -178,8 +193,8 @@ class ExtensionValues(unittest.TestCase):
 NETSCAPE = bytes.fromhex("6086480186f84201")
 
 
-class Told(unittest.TestCase):
-    """Values that are read by the report."""
+class OtherValues(unittest.TestCase):
+    """Values that are read by a call of their own each."""
 
     def value(self, last: int, value: bytes) -> object:
         """The value of an extension 2.5.29 and so on."""
@@ -269,7 +284,167 @@ class Told(unittest.TestCase):
                 with self.subTest(last=last, bad=bad), self.assertRaises(x509.Refused) as caught:
                     self.value(last, bad)
                 refused = caught.exception
-                self.assertEqual((refused.at, refused.word), (None, x509._library.word(refused.status)))
+                self.assertEqual((refused.at, refused.word), (0, x509._library.word(refused.status)))
+
+    def test_extended_usage(self) -> None:
+        uses = [oid(1, 3, 6, 1, 5, 5, 7, 3, 9), oid(1, 2, 3), oid(1, 3, 6, 1, 5, 5, 7, 3, 1), oid(1, 2, 3)]
+        found = self.value(37, sequence(*uses))
+        named = [x509.ExtendedKeyUsageOID.SERVER_AUTH, x509.ExtendedKeyUsageOID.OCSP_SIGNING]
+        self.assertEqual(list(found), [*named, ObjectIdentifier("1.2.3")])
+        every = [value for key, value in vars(x509.ExtendedKeyUsageOID).items() if key.isupper()]
+        octets = [bytes([0x55, 0x1D, 0x25, 0])] + [bytes([0x2B, 6, 1, 5, 5, 7, 3, last]) for last in (1, 2, 3, 4, 8, 9)]
+        self.assertEqual(list(self.value(37, sequence(*(der(6, one) for one in octets)))), every)
+        many = [oid(1, 2, number % 100, number // 100) for number in range(300)]
+        self.assertEqual(str(self.value(37, sequence(*many))[299]), "1.2.99.2")
+        self.assertEqual(len(self.value(37, sequence(oid(1, 2, 3)))), 1)
+
+    def test_key_identifiers(self) -> None:
+        found = self.value(14, der(4, b"abc"))
+        self.assertEqual((found.digest, found.key_identifier), (b"abc", b"abc"))
+        directory = der(0xA4, name(der(12, b"www")))
+        whole = sequence(der(0x80, b"key"), der(0xA1, directory, der(0x82, b"a")), der(0x82, b"\xff"))
+        names = (x509.DirectoryName(x509.Name(name(der(12, b"www")))), x509.DNSName("a"))
+        self.assertEqual(self.value(35, whole), x509.AuthorityKeyIdentifier(b"key", names, -1))
+        self.assertEqual(self.value(35, sequence()), x509.AuthorityKeyIdentifier(None, None, None))
+        many = [der(0x82, f"host{number}".encode()) for number in range(40)]
+        self.assertEqual(len(self.value(35, sequence(der(0xA1, *many))).authority_cert_issuer), 40)
+
+    def test_certificate_policies(self) -> None:
+        cps = sequence(der(6, bytes.fromhex("2b06010505070201")), der(22, b"http://a.example"))
+        found = self.value(32, sequence(sequence(oid(1, 2, 3)), sequence(oid(1, 2, 4), sequence(cps, cps))))
+        self.assertEqual([str(one.policy_identifier) for one in found], ["1.2.3", "1.2.4"])
+        qualifier = x509.PolicyQualifier(ObjectIdentifier("1.3.6.1.5.5.7.2.1"), der(22, b"http://a.example"))
+        self.assertEqual([one.policy_qualifiers for one in found], [(), (qualifier, qualifier)])
+        counts = [1 + number % 9 for number in range(90)]
+        many = [sequence(oid(1, 2, number), sequence(*[cps] * count)) for number, count in enumerate(counts)]
+        self.assertEqual([len(one.policy_qualifiers) for one in self.value(32, sequence(*many))], counts)
+
+    def test_accesses(self) -> None:
+        ocsp = sequence(der(6, bytes.fromhex("2b06010505073001")), der(0x86, b"http://ocsp.example"))
+        other = sequence(oid(1, 2, 3), der(0xA4, name(der(12, b"www"))))
+        for last, kind in ((1, x509.AuthorityInformationAccess), (11, x509.SubjectInformationAccess)):
+            arcs = der(6, bytes.fromhex("2b060105050701") + bytes([last]))
+            made = certificate(sequence(arcs, der(4, sequence(*[ocsp, other] * 9))))
+            found = x509.load_certificate(made).extensions.get_extension_for_class(kind).value
+            self.assertEqual((type(found), len(found)), (kind, 18))
+            self.assertEqual(str(found[0].access_method), "1.3.6.1.5.5.7.48.1")
+            self.assertEqual(found[16].access_location, x509.UniformResourceIdentifier("http://ocsp.example"))
+            self.assertEqual(found[17].access_location, x509.DirectoryName(x509.Name(name(der(12, b"www")))))
+
+    def test_points(self) -> None:
+        uri = der(0x86, b"http://a.example/")
+        attribute = sequence(oid(2, 5, 4, 3), der(12, b"relative"))
+        issuer = [der(0x82, f"host{number}".encode()) for number in range(9)]
+        points = [
+            sequence(der(0xA0, der(0xA0, uri, uri))),
+            sequence(der(0xA0, der(0xA1, der(0x31, attribute))), der(0x81, b"\5\x60")),
+            sequence(der(0xA2, *issuer)),
+        ]
+        for last, kind in ((31, x509.CRLDistributionPoints), (46, x509.FreshestCRL)):
+            found = self.value(last, sequence(*points))
+            self.assertEqual((type(found), len(found)), (kind, 3))
+            address = x509.UniformResourceIdentifier("http://a.example/")
+            self.assertEqual(found[0], x509.DistributionPoint((address, address), None, None, None))
+            self.assertEqual(found[1].relative_name.rfc4514_string(), "CN=relative")
+            self.assertEqual(found[1].reasons, {x509.ReasonFlags.key_compromise, x509.ReasonFlags.ca_compromise})
+            self.assertEqual([one.value for one in found[2].crl_issuer], [f"host{number}" for number in range(9)])
+            self.assertEqual((found[2].full_name, found[2].relative_name, found[2].reasons), (None, None, None))
+            self.assertEqual(len(self.value(last, sequence(points[0]))), 1)
+
+    def test_name_constraints(self) -> None:
+        def roots(*names: bytes) -> bytes:
+            return b"".join(map(sequence, names))
+
+        four, six = bytes([192, 0, 2, 0, 255, 255, 255, 0]), bytes(16) + bytes([255] * 4 + [0] * 12)
+        bad = (bytes([192, 0, 2, 0, 255, 0, 255, 0]), bytes([192, 0, 2, 1, 255, 255, 255, 0]), b"1234")
+        permitted = roots(der(0x82, b"a.example"), der(0x87, four), der(0x87, six), *(der(0x87, one) for one in bad))
+        found = self.value(30, sequence(der(0xA0, permitted), der(0xA1, roots(*[der(0x82, b"b")] * 20))))
+        networks = [ipaddress.ip_network("192.0.2.0/24"), ipaddress.ip_network("::/32")]
+        names = [x509.DNSName("a.example"), *map(x509.IPAddress, networks), x509.UnreadableName(bad[0], 7)]
+        self.assertEqual(list(found.permitted_subtrees[:5]), [*names, x509.UnreadableName(bad[1], 7)])
+        self.assertEqual(found.excluded_subtrees, (x509.DNSName("b"),) * 20)
+        only = self.value(30, sequence(der(0xA1, roots(der(0x82, b"b")))))
+        self.assertEqual((only.permitted_subtrees, len(only.excluded_subtrees)), (None, 1))
+
+    def test_timestamps(self) -> None:
+        def one(milliseconds: int) -> bytes:
+            signed = b"\0" + b"L" * 32 + milliseconds.to_bytes(8, "big") + b"\0\2ex" + b"\4\3" + b"\0\3sig"
+            return len(signed).to_bytes(2, "big") + signed
+
+        times = [1700000000123, 0, 2**64 - 1] * 5
+        told = b"".join(map(one, times))
+        octets = der(4, len(told).to_bytes(2, "big") + told)
+        arcs = der(6, bytes.fromhex("2b06010401d679020402"))
+        found = x509.load_certificate(certificate(sequence(arcs, der(4, octets)))).extensions[0].value
+        self.assertEqual([one.timestamp_milliseconds for one in found], times)
+        first = found[0]
+        self.assertEqual(first.timestamp_utc, datetime(2023, 11, 14, 22, 13, 20, 123000, timezone.utc))
+        self.assertEqual((first.version, first.hash_algorithm, first.signature_algorithm), (0, 4, 3))
+        self.assertEqual((first.log_id, first.extension_bytes, first.signature), (b"L" * 32, b"ex", b"sig"))
+        with self.assertRaises(ValueError):
+            found[2].timestamp_utc
+
+    def test_delta(self) -> None:
+        self.assertEqual(self.value(27, der(2, b"\1\0")), x509.DeltaCRLIndicator(256))
+
+    def test_as_the_report(self) -> None:
+        """What the calls tell of each value of the example files is what the report tells."""
+        compared = set()
+        for file, data in files().items():
+            for load in (x509.load_certificate, x509.load_crl):
+                try:
+                    found = load(data)
+                except x509.Refused:
+                    continue
+                for extension, told in zip(found.extensions, found._report["extensions"]):
+                    with self.subTest(file=file, oid=extension.oid):
+                        self.assertEqual(extension.oid.dotted_string, told["oid"])
+                        compared.add(self.as_told(extension, told))
+        if not compared:
+            self.skipTest("the example files aren't here")
+        self.assertLessEqual({"policy_constraints", "inhibit_any_policy", "crl_number", "ns_cert_type"}, compared)
+        self.assertLessEqual({"issuing_distribution_point", "extended_key_usage", "ns_comment"}, compared)
+
+    def as_told(self, extension: x509.Extension, told: Any) -> str:
+        kind, value = told["kind"], told["value"]
+        if kind == "refused":
+            with self.assertRaises(x509.Refused) as caught:
+                extension.value
+            self.assertEqual(caught.exception.word, value)
+        elif kind == "policy_constraints":
+            expected = x509.PolicyConstraints(value["require_explicit_policy"], value["inhibit_policy_mapping"])
+            self.assertEqual(extension.value, expected)
+        elif kind == "inhibit_any_policy":
+            self.assertEqual(extension.value, x509.InhibitAnyPolicy(value["skip_certs"]))
+        elif kind == "crl_number":
+            self.assertEqual(extension.value, x509.CRLNumber(int(value or "0", 16)))
+        elif kind == "ns_cert_type":
+            self.assertEqual(extension.value, x509.NetscapeCertType(value["flags"], tuple(value["types"])))
+        elif kind == "ns_comment":
+            self.assertEqual(extension.value, x509.NetscapeComment(value))
+        elif kind == "policy_mappings":
+            pairs = [(one["issuer_domain_policy"]["oid"], one["subject_domain_policy"]["oid"]) for one in value]
+            mappings = [(str(one.issuer_domain_policy), str(one.subject_domain_policy)) for one in extension.value]
+            self.assertEqual(mappings, pairs)
+        elif kind == "subject_key_identifier":
+            self.assertEqual(extension.value.digest.hex(), value)
+        elif kind == "authority_key_identifier":
+            key = extension.value.key_identifier
+            self.assertEqual(None if key is None else key.hex(), value["key_identifier"])
+            self.assertEqual(extension.value.authority_cert_serial_number is None, value["serial"] is None)
+        elif kind in ("certificate_policies", "authority_info_access", "crl_distribution_points", "sct_list"):
+            self.assertEqual(len(extension.value), len(value))
+        elif kind == "extended_key_usage":
+            self.assertEqual(len(extension.value), len(value["purposes"]) + len(value["other"]))
+        elif kind == "issuing_distribution_point":
+            names, point = value["full_name"], extension.value
+            self.assertEqual(None if names is None else len(names), point.full_name and len(point.full_name))
+            self.assertEqual(value["relative_name"] is None, point.relative_name is None)
+            self.assertEqual(value["only_user_certificates"], point.only_contains_user_certs)
+            self.assertEqual(value["only_ca_certificates"], point.only_contains_ca_certs)
+            self.assertEqual(value["indirect_crl"], point.indirect_crl)
+            self.assertEqual(value["only_attribute_certificates"], point.only_contains_attribute_certs)
+        return str(kind)
 
     def test_entries(self) -> None:
         reason = extension([2, 5, 29, 21], der(10, b"\1"))
@@ -287,9 +462,16 @@ class Told(unittest.TestCase):
             self.assertEqual(first.get_extension_for_class(x509.CRLReason).value.reason.value, "keyCompromise")
             self.assertTrue(first.get_extension_for_class(x509.InvalidityDate).critical)
             self.assertEqual(found[2].raw_extensions, sequence(reason))
+            self.assertEqual([entry.reason_code for entry in found], [1, None, 1])
+            lost = x509.ReasonFlags.key_compromise
+            self.assertEqual([entry.reason for entry in found], [lost, None, lost])
             by_serial = found.get_revoked_certificate_by_serial_number(1)
             self.assertEqual(by_serial.extensions[1].value.invalidity_seconds, 1704067200)
-            self.assertEqual(pickle.loads(pickle.dumps(by_serial)), found[0])
+            again = pickle.loads(pickle.dumps(by_serial))
+            self.assertEqual((again, again.reason), (found[0], found[0].reason))
+            self.assertEqual(list(again.extensions), list(found[0].extensions))
+            self.assertLess(len(pickle.dumps(by_serial)), 2000)
+            self.assertEqual(list(copy.copy(found[2]).extensions), list(found[2].extensions))
 
     def test_requested(self) -> None:
         hosts = extension([2, 5, 29, 17], sequence(der(0x82, b"a.example")))
@@ -304,6 +486,59 @@ class Told(unittest.TestCase):
         self.assertEqual((good.accepts, good.errors), (True, ()))
         zeros = x509.load_certificate(certificate(serial=b"\0\0\xff")).messages()
         self.assertEqual(set(zeros.warnings) - set(good.warnings), {"Leading zeroes in serial number"})
+        names = extension([2, 5, 29, 17], sequence(der(0x82, b"a")))
+        twice = x509.load_certificate(certificate(names, names)).messages()
+        self.assertFalse(twice.accepts)
+        self.assertTrue(twice.errors)
+
+    def test_messages_of_files(self) -> None:
+        """Those of the structure's validator, which the report has, are among them, and in the same order."""
+        seen = 0
+        for file, data in files().items():
+            try:
+                found = x509.load_certificate(data)
+            except x509.Refused:
+                continue
+            messages, told = found.messages(), found._report["validator"]
+            with self.subTest(file=file):
+                self.assertEqual(list(messages.warnings[: len(told["warnings"])]), told["warnings"])
+                self.assertEqual(list(messages.errors[: len(told["errors"])]), told["errors"])
+                self.assertLessEqual(messages.accepts, told["accepts"])
+                seen += len(messages.warnings) + len(messages.errors)
+        if not files():
+            self.skipTest("the example files aren't here")
+        self.assertGreater(seen, 10)
+
+    def test_words(self) -> None:
+        self.assertEqual(x509.oid_words(NameOID.COMMON_NAME).name, "commonName")
+        self.assertEqual(x509.oid_words(x509.PublicKeyAlgorithmOID.RSAES_PKCS1_v1_5).name, "rsaEncryption")
+        for unknown in ("1.2.3.4.5", "80:01", "", "2.999.1"):
+            self.assertIsNone(x509.oid_words(ObjectIdentifier(unknown)))
+        with self.assertRaises(ValueError):
+            x509.oid_words(ObjectIdentifier("no identifier"))
+        pairs = {"2.5.29.17": "551d11", "1.2.840.113549": "2a864886f70d", "2.999.3": "883703", "0.9.2342": "099226"}
+        for arcs, contents in pairs.items():
+            self.assertEqual(x509.registry._contents(ObjectIdentifier(arcs)).hex(), contents)
+            self.assertEqual(x509._library.identifier(bytes.fromhex(contents)).dotted_string, arcs)
+
+    def test_parameters(self) -> None:
+        self.assertIsNone(x509.load_certificate(certificate()).key_parameters)
+        key = sequence(sequence(oid(1, 2, 4), der(5)), der(3, b"\0abc"))
+        self.assertEqual(x509.load_certificate(certificate(key=key)).key_parameters, (5, b""))
+        curve = sequence(sequence(oid(1, 2, 4), oid(1, 2, 3)), der(3, b"\0abc"), der(4, b"junk"))
+        self.assertEqual(x509.load_certificate(certificate(key=curve)).key_parameters, (6, b"\x2a\3"))
+
+    def test_signature_kind(self) -> None:
+        self.assertEqual(x509.load_certificate(certificate()).signature_kind, x509.SignatureKind.UNKNOWN)
+        kinds = {x509.load_certificate(data).signature_kind for data in files().values() if self.is_read(data)}
+        if files():
+            self.assertLessEqual({x509.SignatureKind.RSA, x509.SignatureKind.ECDSA, x509.SignatureKind.ED25519}, kinds)
+
+    def is_read(self, data: bytes) -> bool:
+        try:
+            return bool(x509.load_certificate(data))
+        except x509.Refused:
+            return False
 
     def test_key(self) -> None:
         found = x509.load_certificate(certificate())

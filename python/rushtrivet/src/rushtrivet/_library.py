@@ -16,7 +16,7 @@ import ctypes.util
 import json
 import os
 import struct
-from ctypes import POINTER, addressof, c_bool, c_char, c_char_p, c_int64, c_size_t, c_uint32, c_void_p
+from ctypes import POINTER, addressof, c_bool, c_char, c_char_p, c_int64, c_size_t, c_uint32, c_uint64, c_void_p
 from enum import IntEnum
 from functools import lru_cache
 from pathlib import Path
@@ -27,8 +27,8 @@ from .oid import ObjectIdentifier
 
 Octets = Union[bytes, bytearray, memoryview]
 
-HEADER_VERSION = 100
-"""The version of the header that this module was written after: 0.1.0."""
+HEADER_VERSION = 200
+"""The version of the header that this module was written after: 0.2.0."""
 
 
 # ---- structs
@@ -93,7 +93,19 @@ class ListStruct(ctypes.Structure):
 class RevokedRow(ctypes.Structure):
     """An entry of a list."""
 
-    _fields_ = [("serial", Bytes), ("revocation_date", c_int64), ("extension_count", c_size_t)]
+    _fields_ = [
+        ("serial", Bytes),
+        ("revocation_date", c_int64),
+        ("extension_count", c_size_t),
+        ("reason", c_uint32),
+        ("has_reason", c_uint32),
+    ]
+
+
+class EntryExtensionRow(ctypes.Structure):
+    """An extension of an entry of a list."""
+
+    _fields_ = [("oid", Bytes), ("value", Bytes), ("entry", c_size_t), ("critical", c_uint32)]
 
 
 class IndexRow(ctypes.Structure):
@@ -145,6 +157,135 @@ class BasicConstraintsStruct(ctypes.Structure):
     _fields_ = [("ca", c_uint32), ("has_path_length", c_uint32), ("path_length", c_uint32)]
 
 
+class ExtendedKeyUsageStruct(ctypes.Structure):
+    """What rtv_read_extended_key_usage tells."""
+
+    _fields_ = [
+        ("other_count", c_size_t),
+        ("any", c_uint32),
+        ("server_auth", c_uint32),
+        ("client_auth", c_uint32),
+        ("code_signing", c_uint32),
+        ("email_protection", c_uint32),
+        ("time_stamping", c_uint32),
+        ("ocsp_signing", c_uint32),
+    ]
+
+
+class AuthorityKeyStruct(ctypes.Structure):
+    """What rtv_read_authority_key tells."""
+
+    _fields_ = [
+        ("key_identifier", Bytes),
+        ("serial", Bytes),
+        ("issuer_count", c_size_t),
+        ("has_key_identifier", c_uint32),
+        ("has_issuer", c_uint32),
+        ("has_serial", c_uint32),
+    ]
+
+
+class PolicyRow(ctypes.Structure):
+    """A policy of a certificate."""
+
+    _fields_ = [("oid", Bytes), ("qualifier_count", c_size_t)]
+
+
+class QualifierRow(ctypes.Structure):
+    """A qualifier of a policy."""
+
+    _fields_ = [("oid", Bytes), ("value", Bytes)]
+
+
+class AccessRow(ctypes.Structure):
+    """An access to more information."""
+
+    _fields_ = [("method", Bytes), ("location", GeneralNameRow)]
+
+
+class DistributionPointStruct(ctypes.Structure):
+    """What rtv_read_distribution_point tells."""
+
+    _fields_ = [
+        ("name_count", c_size_t),
+        ("issuer_count", c_size_t),
+        ("name_kind", c_uint32),
+        ("has_reasons", c_uint32),
+        ("reasons", c_uint32),
+        ("has_issuer", c_uint32),
+    ]
+
+
+class NameConstraintsStruct(ctypes.Structure):
+    """What rtv_read_name_constraints tells."""
+
+    _fields_ = [
+        ("permitted_count", c_size_t),
+        ("excluded_count", c_size_t),
+        ("has_permitted", c_uint32),
+        ("has_excluded", c_uint32),
+    ]
+
+
+class TimestampRow(ctypes.Structure):
+    """A signed certificate timestamp."""
+
+    _fields_ = [
+        ("log_id", Bytes),
+        ("extensions", Bytes),
+        ("signature", Bytes),
+        ("timestamp", c_uint64),
+        ("version", c_uint32),
+        ("hash_algorithm", c_uint32),
+        ("signature_algorithm", c_uint32),
+    ]
+
+
+class PolicyConstraintsStruct(ctypes.Structure):
+    """What rtv_read_policy_constraints tells."""
+
+    _fields_ = [
+        ("has_require_explicit_policy", c_uint32),
+        ("require_explicit_policy", c_uint32),
+        ("has_inhibit_policy_mapping", c_uint32),
+        ("inhibit_policy_mapping", c_uint32),
+    ]
+
+
+class PolicyMappingRow(ctypes.Structure):
+    """A mapping of policies."""
+
+    _fields_ = [("issuer_domain_policy", Bytes), ("subject_domain_policy", Bytes)]
+
+
+class IssuingPointStruct(ctypes.Structure):
+    """What rtv_read_issuing_distribution_point tells."""
+
+    _fields_ = [
+        ("name_count", c_size_t),
+        ("name_kind", c_uint32),
+        ("only_user_certs", c_uint32),
+        ("only_ca_certs", c_uint32),
+        ("has_reasons", c_uint32),
+        ("reasons", c_uint32),
+        ("indirect_crl", c_uint32),
+        ("only_attribute_certs", c_uint32),
+    ]
+
+
+class KeyInfoStruct(ctypes.Structure):
+    """What rtv_read_key_info tells."""
+
+    _fields_ = [
+        ("algorithm", Bytes),
+        ("parameters", Bytes),
+        ("bits", Bytes),
+        ("has_parameters", c_uint32),
+        ("parameters_tag", c_uint32),
+        ("unused_bits", c_uint32),
+    ]
+
+
 class RsaKeyStruct(ctypes.Structure):
     """What rtv_read_rsa_key tells."""
 
@@ -152,9 +293,21 @@ class RsaKeyStruct(ctypes.Structure):
 
 
 class Number(ctypes.Structure):
-    """What rtv_read_key_usage tells: no struct of the header, but a number."""
+    """What calls tell that tell one number: no struct of the header."""
 
     _fields_ = [("number", c_uint32)]
+
+
+class Seconds(ctypes.Structure):
+    """What rtv_read_invalidity_date tells: no struct of the header, but a time."""
+
+    _fields_ = [("seconds", c_int64)]
+
+
+class Window(ctypes.Structure):
+    """What calls tell that tell one window, or a row of them."""
+
+    _fields_ = [("window", Bytes)]
 
 
 STRUCTS: Dict[str, Type[ctypes.Structure]] = {
@@ -163,12 +316,25 @@ STRUCTS: Dict[str, Type[ctypes.Structure]] = {
     "rtv_extension": ExtensionRow,
     "rtv_list": ListStruct,
     "rtv_revoked": RevokedRow,
+    "rtv_entry_extension": EntryExtensionRow,
     "rtv_index_row": IndexRow,
     "rtv_request": RequestStruct,
     "rtv_request_attribute": RequestAttributeRow,
     "rtv_attribute": AttributeRow,
     "rtv_general_name": GeneralNameRow,
     "rtv_basic_constraints": BasicConstraintsStruct,
+    "rtv_extended_key_usage": ExtendedKeyUsageStruct,
+    "rtv_authority_key": AuthorityKeyStruct,
+    "rtv_policy": PolicyRow,
+    "rtv_qualifier": QualifierRow,
+    "rtv_access": AccessRow,
+    "rtv_distribution_point": DistributionPointStruct,
+    "rtv_name_constraints": NameConstraintsStruct,
+    "rtv_timestamp": TimestampRow,
+    "rtv_policy_constraints": PolicyConstraintsStruct,
+    "rtv_policy_mapping": PolicyMappingRow,
+    "rtv_issuing_distribution_point": IssuingPointStruct,
+    "rtv_key_info": KeyInfoStruct,
     "rtv_rsa_key": RsaKeyStruct,
 }
 
@@ -177,6 +343,7 @@ STRUCTS: Dict[str, Type[ctypes.Structure]] = {
 
 _OCTETS = [c_char_p, c_size_t]
 _SIZE = POINTER(c_size_t)
+_TEXT = [c_char_p, c_size_t, _SIZE]
 _NUMBERS = (c_bool, c_size_t, c_uint32)
 
 CALLS: Dict[str, Tuple[Any, List[Any]]] = {
@@ -199,6 +366,7 @@ CALLS: Dict[str, Tuple[Any, List[Any]]] = {
         ],
     ),
     "rtv_find_revoked": (c_uint32, [*_OCTETS, *_OCTETS, POINTER(RevokedRow), _SIZE, _SIZE]),
+    "rtv_read_entry_extensions": (c_uint32, [*_OCTETS, POINTER(EntryExtensionRow), c_size_t, _SIZE, _SIZE]),
     "rtv_index_build": (c_uint32, [*_OCTETS, POINTER(IndexRow), c_size_t, _SIZE, _SIZE]),
     "rtv_index_find": (c_uint32, [POINTER(IndexRow), c_size_t, *_OCTETS, _SIZE]),
     "rtv_read_request": (
@@ -209,12 +377,66 @@ CALLS: Dict[str, Tuple[Any, List[Any]]] = {
     "rtv_read_general_names": (c_uint32, [*_OCTETS, POINTER(GeneralNameRow), c_size_t, _SIZE, _SIZE]),
     "rtv_read_key_usage": (c_uint32, [*_OCTETS, POINTER(c_uint32), _SIZE]),
     "rtv_read_basic_constraints": (c_uint32, [*_OCTETS, POINTER(BasicConstraintsStruct), _SIZE]),
+    "rtv_read_extended_key_usage": (
+        c_uint32,
+        [*_OCTETS, POINTER(ExtendedKeyUsageStruct), POINTER(Bytes), c_size_t, _SIZE],
+    ),
+    "rtv_read_key_identifier": (c_uint32, [*_OCTETS, POINTER(Bytes), _SIZE]),
+    "rtv_read_authority_key": (
+        c_uint32,
+        [*_OCTETS, POINTER(AuthorityKeyStruct), POINTER(GeneralNameRow), c_size_t, _SIZE],
+    ),
+    "rtv_read_policies": (c_uint32, [*_OCTETS, POINTER(PolicyRow), c_size_t, _SIZE, _SIZE]),
+    "rtv_read_qualifiers": (c_uint32, [*_OCTETS, c_size_t, POINTER(QualifierRow), c_size_t, _SIZE, _SIZE]),
+    "rtv_read_accesses": (c_uint32, [*_OCTETS, POINTER(AccessRow), c_size_t, _SIZE, _SIZE]),
+    "rtv_read_distribution_point": (
+        c_uint32,
+        [
+            *_OCTETS,
+            c_size_t,
+            POINTER(DistributionPointStruct),
+            POINTER(GeneralNameRow),
+            c_size_t,
+            POINTER(GeneralNameRow),
+            c_size_t,
+            _SIZE,
+        ],
+    ),
+    "rtv_read_name_constraints": (
+        c_uint32,
+        [
+            *_OCTETS,
+            POINTER(NameConstraintsStruct),
+            POINTER(GeneralNameRow),
+            c_size_t,
+            POINTER(GeneralNameRow),
+            c_size_t,
+            _SIZE,
+        ],
+    ),
+    "rtv_read_timestamps": (c_uint32, [*_OCTETS, POINTER(TimestampRow), c_size_t, _SIZE, _SIZE]),
+    "rtv_read_policy_constraints": (c_uint32, [*_OCTETS, POINTER(PolicyConstraintsStruct), _SIZE]),
+    "rtv_read_inhibit_any_policy": (c_uint32, [*_OCTETS, POINTER(c_uint32), _SIZE]),
+    "rtv_read_policy_mappings": (c_uint32, [*_OCTETS, POINTER(PolicyMappingRow), c_size_t, _SIZE, _SIZE]),
+    "rtv_read_crl_number": (c_uint32, [*_OCTETS, POINTER(Bytes), _SIZE]),
+    "rtv_read_issuing_distribution_point": (
+        c_uint32,
+        [*_OCTETS, POINTER(IssuingPointStruct), POINTER(GeneralNameRow), c_size_t, _SIZE],
+    ),
+    "rtv_read_reason_code": (c_uint32, [*_OCTETS, POINTER(c_uint32), _SIZE]),
+    "rtv_read_invalidity_date": (c_uint32, [*_OCTETS, POINTER(c_int64), _SIZE]),
+    "rtv_read_ns_cert_type": (c_uint32, [*_OCTETS, POINTER(c_uint32), _SIZE]),
+    "rtv_read_ns_comment": (c_uint32, [*_OCTETS, POINTER(Bytes), _SIZE]),
+    "rtv_read_key_info": (c_uint32, [*_OCTETS, POINTER(KeyInfoStruct), _SIZE]),
     "rtv_read_rsa_key": (c_uint32, [*_OCTETS, POINTER(RsaKeyStruct), _SIZE]),
+    "rtv_signature_kind": (c_uint32, _OCTETS),
     "rtv_word": (c_size_t, [c_uint32, c_char_p, c_size_t]),
-    "rtv_name_text": (c_uint32, [*_OCTETS, c_char_p, c_size_t, _SIZE, _SIZE]),
-    "rtv_hex_text": (c_uint32, [*_OCTETS, c_char_p, c_size_t, _SIZE]),
-    "rtv_oid_text": (c_uint32, [*_OCTETS, c_char_p, c_size_t, _SIZE]),
-    "rtv_json": (c_uint32, [*_OCTETS, c_uint32, c_bool, c_char_p, c_size_t, _SIZE]),
+    "rtv_name_text": (c_uint32, [*_OCTETS, *_TEXT, _SIZE]),
+    "rtv_hex_text": (c_uint32, [*_OCTETS, *_TEXT]),
+    "rtv_oid_text": (c_uint32, [*_OCTETS, *_TEXT]),
+    "rtv_oid_word": (c_uint32, [*_OCTETS, *_TEXT, *_TEXT]),
+    "rtv_validate": (c_uint32, [*_OCTETS, *_TEXT, POINTER(c_uint32), _SIZE]),
+    "rtv_json": (c_uint32, [*_OCTETS, c_uint32, c_bool, *_TEXT]),
 }
 """The type of the result, and those of the arguments. Pointers are handed over as plain addresses."""
 
@@ -251,7 +473,8 @@ def load(file: str) -> ctypes.CDLL:
         raise ImportError(f"this is not the library that rushtrivet needs: {error}") from error
     version = library.rtv_version()
     if version // 100 != HEADER_VERSION // 100 or version < HEADER_VERSION:
-        raise ImportError(f"rushtrivet needs its library in version 0.1.0 or a later 0.1, not {version_text(version)}")
+        wanted, found = version_text(HEADER_VERSION), version_text(version)
+        raise ImportError(f"rushtrivet needs its library in version {wanted} or a later {wanted[:-2]}, not {found}")
     return library
 
 
@@ -266,7 +489,7 @@ lib = load(_file())
 # ---- memory
 
 
-_CODES: Dict[Any, str] = {c_int64: "q", c_size_t: "N", c_uint32: "I"}
+_CODES: Dict[Any, str] = {c_int64: "q", c_uint64: "Q", c_size_t: "N", c_uint32: "I"}  # c_size_t may be c_uint64
 
 
 class Layout:
@@ -276,26 +499,27 @@ class Layout:
         self.place: Dict[str, int] = {}
         """Of each field, where its number, or the address of its window, stands in the tuple."""
 
-        codes, self._blank = self._codes(kind)
-        padding = ctypes.sizeof(kind) - struct.calcsize("@" + codes)
-        self._struct = struct.Struct(f"@{codes}{padding}x")
+        self._codes = ""
+        self._blank: List[int] = []
+        self._add(kind)
+        padding = ctypes.sizeof(kind) - struct.calcsize("@" + self._codes)
+        self._struct = struct.Struct(f"@{self._codes}{padding}x")
         self.size = self._struct.size
         self.read_at: Callable[[bytearray, int], Tuple[int, ...]] = self._struct.unpack_from
         self.read_all: Callable[[bytearray], Iterator[Tuple[int, ...]]] = self._struct.iter_unpack
 
-    def _codes(self, kind: Type[ctypes.Structure]) -> Tuple[str, List[int]]:
+    def _add(self, kind: Type[ctypes.Structure]) -> None:
         """The codes of the numbers, and the numbers of a struct that holds valid values: no address in it is NULL."""
-        codes = ""
-        blank: List[int] = []
         for name, field in kind._fields_:  # type: ignore[misc]
-            self.place[name] = len(codes)
+            self.place.setdefault(name, len(self._codes))
             if field is Bytes:
-                codes += "PN"
-                blank += [addressof(_EMPTY), 0]
+                self._codes += "PN"
+                self._blank += [addressof(_EMPTY), 0]
+            elif isinstance(field, type(ctypes.Structure)):
+                self._add(field)
             else:
-                codes += _CODES[field]
-                blank.append(0)
-        return codes, blank
+                self._codes += _CODES[field]
+                self._blank.append(0)
 
     def blank(self, count: int) -> bytes:
         """So many structs that hold valid values, as the library wants them."""
@@ -304,9 +528,10 @@ class Layout:
 
 _EMPTY = ctypes.create_string_buffer(1)
 
+_NO_STRUCTS: List[Type[ctypes.Structure]] = [Number, Seconds, Window]
+
 LAYOUTS: Dict[Type[ctypes.Structure], Layout] = {
-    **{kind: Layout(kind) for kind in STRUCTS.values() if kind is not Bytes},
-    Number: Layout(Number),
+    kind: Layout(kind) for kind in [*STRUCTS.values(), *_NO_STRUCTS] if kind is not Bytes
 }
 
 _COUNTS = struct.Struct("@NN")
@@ -523,6 +748,29 @@ def _oid_text(oid: bytes) -> str:
         return memory.count
 
     return whole_text(call).decode("utf-8", "backslashreplace")
+
+
+def oid_words(oid: bytes) -> Optional[Tuple[str, str]]:
+    """What the registry calls the identifier with these contents, a name and a description; None where it has none."""
+    buffer, memory, room = Buffer(oid), _TEXTS.take(), 256
+    while True:
+        name, description = bytearray(room), bytearray(room)
+        status = lib.rtv_oid_word(
+            buffer.address,
+            buffer.length,
+            *(addressof(c_char.from_buffer(name)), room, memory.counts),
+            *(addressof(c_char.from_buffer(description)), room, memory.second),
+        )
+        if status == Status.NOT_FOUND:
+            _TEXTS.free.append(memory)
+            return None
+        if status:
+            refuse(status)
+        lengths = memory.count, memory.at
+        if max(lengths) < room:
+            _TEXTS.free.append(memory)
+            return name[: lengths[0]].decode("utf-8"), description[: lengths[1]].decode("utf-8")
+        room = max(lengths) + 1
 
 
 @lru_cache(maxsize=1024)

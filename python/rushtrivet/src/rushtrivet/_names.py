@@ -8,7 +8,7 @@ from itertools import groupby
 from typing import Any, Callable, Dict, Iterator, List, Mapping, Optional, Tuple, Union
 
 from ._library import AttributeRow, Buffer, Caller, Memory, Octets, identifier, lib, outside, refuse, whole_text
-from ._objects import kept
+from ._objects import Items, kept
 from .oid import NameOID, ObjectIdentifier
 
 _NAMES = Caller(None, AttributeRow, 16)
@@ -103,11 +103,14 @@ def attribute_told(told: Mapping[str, Any]) -> NameAttribute:
     return NameAttribute(oid, text, text.encode(_ENCODINGS.get(tag, "utf-8")), tag)
 
 
-class RelativeDistinguishedName:
+class RelativeDistinguishedName(Items[NameAttribute]):
     """A relative name: attributes, mostly one. Two are equal where the same attributes stand in them, in any order."""
 
     def __init__(self, attributes: Tuple[NameAttribute, ...]) -> None:
         self._attributes = attributes
+
+    def _items(self) -> Tuple[NameAttribute, ...]:
+        return self._attributes
 
     def get_attributes_for_oid(self, oid: ObjectIdentifier) -> List[NameAttribute]:
         """The attributes of that type, in order."""
@@ -124,12 +127,6 @@ class RelativeDistinguishedName:
 
     def __hash__(self) -> int:
         return hash(frozenset(self._attributes))
-
-    def __iter__(self) -> Iterator[NameAttribute]:
-        return iter(self._attributes)
-
-    def __len__(self) -> int:
-        return len(self._attributes)
 
     def __repr__(self) -> str:
         return f"<RelativeDistinguishedName({self.rfc4514_string()})>"

@@ -5,11 +5,39 @@ from __future__ import annotations
 import hashlib
 from dataclasses import dataclass
 from datetime import datetime, timedelta, timezone
-from typing import Any, Callable, ClassVar, Dict, Generic, NamedTuple, Optional, Type, TypeVar, Union, overload
+from enum import IntEnum
+from typing import (
+    Any,
+    Callable,
+    ClassVar,
+    Dict,
+    Generic,
+    Iterator,
+    NamedTuple,
+    Optional,
+    Tuple,
+    Type,
+    TypeVar,
+    Union,
+    overload,
+)
 
-from ._library import Buffer, Caller, Kind, Numbers, Octets, RsaKeyStruct, identifier, lib, octets, report
+from ._library import (
+    Buffer,
+    Caller,
+    KeyInfoStruct,
+    Kind,
+    Numbers,
+    Octets,
+    RsaKeyStruct,
+    identifier,
+    lib,
+    octets,
+    report,
+)
 from .oid import ObjectIdentifier, PublicKeyAlgorithmOID
 
+_KEY_INFOS = Caller(KeyInfoStruct)
 _RSA_KEYS = Caller(RsaKeyStruct)
 _EPOCH = datetime(1970, 1, 1, tzinfo=timezone.utc)
 
@@ -20,6 +48,11 @@ def utc(seconds: int) -> datetime:
         return _EPOCH + timedelta(seconds=seconds)
     except OverflowError:
         raise ValueError(f"{seconds} seconds since 1970 are outside of the years 1 to 9999 of a datetime") from None
+
+
+def utc_of_milliseconds(milliseconds: int) -> datetime:
+    """The time so many milliseconds after 1970-01-01T00:00:00Z. ValueError as utc()."""
+    return utc(milliseconds // 1000).replace(microsecond=milliseconds % 1000 * 1000)
 
 
 def signed_number(contents: bytes) -> int:
@@ -63,6 +96,25 @@ class kept(Generic[Value]):
         return value
 
 
+Item = TypeVar("Item")
+
+
+class Items(Generic[Item]):
+    """What stands in a row: its length, one at a position, and all in order."""
+
+    def _items(self) -> Tuple[Item, ...]:
+        raise NotImplementedError
+
+    def __iter__(self) -> Iterator[Item]:
+        return iter(self._items())
+
+    def __len__(self) -> int:
+        return len(self._items())
+
+    def __getitem__(self, position: int) -> Item:
+        return self._items()[position]
+
+
 class RSAPublicNumbers(NamedTuple):
     """The numbers of an RSA key."""
 
@@ -71,6 +123,16 @@ class RSAPublicNumbers(NamedTuple):
 
     e: int
     """The exponent."""
+
+
+class KeyParameters(NamedTuple):
+    """The parameters of a key's algorithm, as the identifier of a curve."""
+
+    tag: int
+    """The number of their tag, whatever its class: 5 is NULL, 6 an identifier, 16 a SEQUENCE."""
+
+    contents: bytes
+    """Their octets, without a header."""
 
 
 @dataclass(frozen=True)
@@ -86,13 +148,26 @@ class PublicKey:
     """What is said of a key. Its octets are the object's `public_key_bytes`."""
 
     kind: str
-    """rsa, ec, ed25519, ed448, x25519, x448, rsa_pss, dsa, gost_r3410_2001, gost_r3410_2012, unknown or refused."""
+    """rsa, ec, ed25519, ed448, x25519, x448, rsa_pss, dsa, gost_r3410_2001, gost_r3410_2012_256, gost_r3410_2012_512 or
+    unknown."""
 
     key_size: Optional[int]
     """In bits, as the report has it; None where it isn't known."""
 
     curve: Optional[str]
     """The name of an elliptic curve that is known."""
+
+
+class SignatureKind(IntEnum):
+    """What an algorithm of signatures is."""
+
+    UNKNOWN = 0
+    RSA = 1
+    RSASSA_PSS = 2
+    RSAES_OAEP = 3
+    DSA = 4
+    ECDSA = 5
+    ED25519 = 6
 
 
 class SignedObject:
@@ -143,6 +218,12 @@ class SignedObject:
         return self._oid("signature_algorithm")
 
     @property
+    def signature_kind(self) -> SignatureKind:
+        """What that algorithm is."""
+        buffer = Buffer(self._window("signature_algorithm"))
+        return SignatureKind(lib.rtv_signature_kind(buffer.address, buffer.length))
+
+    @property
     def signature_hash_algorithm(self) -> Optional[HashAlgorithm]:
         """The hash that the signature is over; None where the algorithm isn't known, or has none of its own."""
         told = self._report["signature_algorithm"]["hash"]
@@ -188,6 +269,16 @@ class KeyedObject(SignedObject):
     def key_size(self) -> Optional[int]:
         """The bits of an RSA modulus, or of a coordinate of a point; None where it isn't known, as of Ed25519."""
         return self._number("key_size") or None
+
+    @kept
+    def key_parameters(self) -> Optional[KeyParameters]:
+        """The parameters of the key's algorithm; None where there are none, or none that can be read."""
+        buffer = Buffer(self.public_key_bytes)
+        found, _ = _KEY_INFOS.ask(
+            lambda memory: lib.rtv_read_key_info(buffer.address, buffer.length, memory.head, memory.second)
+        )
+        _, _, at, length, _, _, has_parameters, tag, _ = found
+        return KeyParameters(tag, buffer.window(at, length)) if has_parameters else None
 
     def public_key(self) -> PublicKey:
         """The kind of the key, its size and its curve."""

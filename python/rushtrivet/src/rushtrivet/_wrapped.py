@@ -44,12 +44,6 @@ def certificate_with(extensions: bytes) -> bytes:
     return _sequence(_sequence(_FRONT, _element(0xA3, extensions)), _ALGORITHM, _BITS)
 
 
-def name_of(window: bytes) -> bytes:
-    """A Name of the contents of a window of one, which may be shorter than its header says."""
-    count = window[1] - 128 if window[1] > 128 else 0
-    return _sequence(window[2 + count :])
-
-
 @lru_cache(maxsize=1)
 def _statuses() -> Dict[str, int]:
     return {word(status): int(status) for status in Status}

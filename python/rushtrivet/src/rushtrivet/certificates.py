@@ -6,13 +6,28 @@ from datetime import datetime
 from enum import Enum
 from typing import Any, Callable, List, NamedTuple, Optional, Tuple
 
-from ._library import Buffer, Caller, CertificateStruct, ExtensionRow, Kind, Numbers, Octets, lib
+from ._library import (
+    Buffer,
+    Caller,
+    CertificateStruct,
+    ExtensionRow,
+    Kind,
+    Memory,
+    Number,
+    Numbers,
+    Octets,
+    lib,
+    refuse,
+    whole_text,
+)
 from ._names import Name
 from ._objects import KeyedObject, kept, signed_number, utc
+from .extensions import Extensions, read_extensions
+from .general_names import dns_names
 from .oid import ExtensionOID
-from .values import Extensions, dns_names, read_extensions
 
 _CERTIFICATES = Caller(CertificateStruct, ExtensionRow, 16, "extension_count")
+_ANSWERS = Caller(Number)
 _ALTERNATIVE_NAMES = b"\x55\x1d\x11"  # 2.5.29.17: no other octets are this identifier
 
 
@@ -24,12 +39,14 @@ class Version(Enum):
 
 
 class Messages(NamedTuple):
-    """What the validator of the structure says of a certificate (docs/REPORT.md)."""
+    """What the validators of the structure and of the extensions say of a certificate, in their order."""
 
     accepts: bool
-    """Whether it takes it."""
+    """Whether both find it sound, with warnings or not."""
 
     warnings: Tuple[str, ...]
+    """A character that could forge a line or hide text is written by its number, as "\\u{a}"; so in errors."""
+
     errors: Tuple[str, ...]
 
 
@@ -123,12 +140,28 @@ class Certificate(KeyedObject):
         return dns_names(self._buffer, *found[0])
 
     def messages(self) -> Messages:
-        """What the library's validator of the structure says, which looks at the rules of RFC 5280 for single fields.
+        """What the library's validators say, which look at the rules of RFC 5280 for single fields and for extensions.
 
-        It checks no signature and builds no chain.
+        They check no signature and build no chain.
         """
-        told = self._report["validator"]
-        return Messages(told["accepts"], tuple(told["warnings"]), tuple(told["errors"]))
+        buffer, answer = self._buffer, _ANSWERS.take()
+
+        def call(text: int, room: int, memory: Memory) -> int:
+            status = lib.rtv_validate(
+                buffer.address, buffer.length, text, room, memory.counts, answer.head, memory.second
+            )
+            if status:
+                refuse(status, memory.at)
+            return memory.count
+
+        told = [line.partition(": ") for line in whole_text(call).decode("utf-8").split("\n")]
+        (sound,) = _ANSWERS.head_in(answer)
+        _ANSWERS.free.append(answer)
+        return Messages(
+            sound == 1,
+            tuple(message for level, _, message in told if level == "warning"),
+            tuple(message for level, _, message in told if level == "error"),
+        )
 
     def __repr__(self) -> str:
         return f"<Certificate(subject={self.subject!r})>"

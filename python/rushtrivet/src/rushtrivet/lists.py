@@ -2,14 +2,15 @@
 
 from __future__ import annotations
 
+from bisect import bisect_left
 from dataclasses import dataclass, field
 from datetime import datetime
-from typing import Any, Callable, Iterator, List, Optional, Tuple, Union, overload
+from typing import Any, Callable, Iterator, List, Optional, Sequence, Tuple, Union, overload
 
 from ._library import (
     Buffer,
     Caller,
-    CertificateStruct,
+    EntryExtensionRow,
     ExtensionRow,
     IndexRow,
     Kind,
@@ -23,15 +24,15 @@ from ._library import (
 )
 from ._names import Name
 from ._objects import SignedObject, kept, serial_contents, signed_number, utc
-from ._wrapped import certificate_with
 from .errors import Status
-from .values import Extensions, read_extensions
+from .extensions import Extensions, read_extensions
+from .values import ReasonFlags, reason_of
 
 _LISTS = Caller(ListStruct, ExtensionRow, 8, "extension_count")
 _ENTRIES = Caller(ListStruct, RevokedRow, 0, "revoked_count")
 _INDEXES = Caller(None, IndexRow)
 _ENTRY = Caller(RevokedRow)
-_CERTIFICATES = Caller(CertificateStruct, ExtensionRow, 4, "extension_count")
+_ENTRY_EXTENSIONS = Caller(None, EntryExtensionRow)
 _POSITION = Caller()
 
 
@@ -51,20 +52,27 @@ class RevokedCertificate:
     raw_extensions: bytes = field(default=b"", repr=False)
     """The extensions: the whole SEQUENCE, with its header, as it stands; empty where there are none."""
 
-    @property
+    reason_code: Optional[int] = None
+    """The number of the reason (RFC 5280, 5.3.1); None where none is told, or none that can be read."""
+
+    _read: Optional[Callable[[], Extensions]] = field(default=None, repr=False, compare=False)
+
+    @kept
     def extensions(self) -> Extensions:
-        """The extensions, in order, as CRLReason. Their values are read when they are asked for."""
-        if not self.extension_count:
-            return Extensions(())
-        buffer = Buffer(certificate_with(self.raw_extensions))
-        _, found = _CERTIFICATES.ask(
-            lambda memory: lib.rtv_read_certificate(
-                buffer.address, buffer.length, False, False, memory.head, memory.rows, memory.room, memory.second
-            )
-        )
-        if len(found) != self.extension_count:
-            raise RuntimeError("the extensions of an entry are others than the library told")
-        return read_extensions(buffer, found)
+        """The extensions, in order, as CRLReason. Their values are read when they are asked for.
+
+        Those of all entries of the list are read when they are first asked for of one.
+        """
+        return self._read() if self._read else Extensions(())
+
+    @property
+    def reason(self) -> Optional[ReasonFlags]:
+        """Why the certificate was revoked; None where that isn't told, or its number has no name."""
+        return None if self.reason_code is None else reason_of(self.reason_code)
+
+    def __reduce__(self) -> Tuple[Callable[..., Any], Tuple[Any, ...]]:
+        told = (self.serial_octets, self.revocation_seconds, self.extension_count, self.raw_extensions)
+        return _entry_with, (*told, self.reason_code, self.extensions)  # not the whole list
 
     @property
     def serial_number(self) -> int:
@@ -75,6 +83,27 @@ class RevokedCertificate:
     def revocation_date_utc(self) -> datetime:
         """When the certificate was revoked, in UTC. ValueError where a datetime can't hold it."""
         return utc(self.revocation_seconds)
+
+
+def _entry_with(
+    serial: bytes, seconds: int, count: int, raw: bytes, reason: Optional[int], extensions: Extensions
+) -> RevokedCertificate:
+    """An entry with extensions that were read."""
+    return RevokedCertificate(serial, seconds, count, raw, reason, lambda: extensions)
+
+
+class _EntryNumbers(Sequence[int]):
+    """Of each extension of the entries of a list, in order, the position of its entry."""
+
+    def __init__(self, rows: Memory, count: int) -> None:
+        self.rows = rows
+        self._count = count
+
+    def __len__(self) -> int:
+        return self._count
+
+    def __getitem__(self, position: Any) -> Any:
+        return _ENTRY_EXTENSIONS.row_in(self.rows, position)[4]
 
 
 class CertificateRevocationList(SignedObject):
@@ -140,13 +169,13 @@ class CertificateRevocationList(SignedObject):
         )
         if status and status != Status.NOT_FOUND:
             refuse(status, memory.at)
-        found = None if status else self._entry(_ENTRY.head_in(memory))
+        found = None if status else self._entry(memory.count, _ENTRY.head_in(memory))
         _ENTRY.free.append(memory)
         return found
 
     @kept
     def _rows(self) -> Memory:
-        """A row for each entry, of 32 octets: read when the first entry is asked for."""
+        """A row for each entry, of 48 octets: read when the first entry is asked for."""
         buffer, strict = self._buffer, self._strict
 
         def call(memory: Memory) -> Any:
@@ -156,13 +185,37 @@ class CertificateRevocationList(SignedObject):
 
         return _ENTRIES.hold(call, len(self))[0]
 
-    def _entry(self, row: Numbers) -> RevokedCertificate:
-        at, length, seconds, extension_count = row
-        serial, extensions = self._buffer.window(at, length), b""
-        if extension_count:  # behind the serial stands a time, and behind that these; both are longer than six octets
-            time = self._buffer.element(at + length, 6)
-            extensions = self._buffer.element(at + length + len(time), 6)
-        return RevokedCertificate(serial, seconds, extension_count, extensions)
+    @kept
+    def _entry_extensions(self) -> _EntryNumbers:
+        """A row for each extension of an entry, of 48 octets: read when those of an entry are asked for."""
+        buffer = self._buffer
+        found = _ENTRY_EXTENSIONS.hold(
+            lambda memory: lib.rtv_read_entry_extensions(
+                buffer.address, buffer.length, memory.rows, memory.room, memory.counts, memory.second
+            ),
+            0,
+        )
+        return _EntryNumbers(*found)
+
+    def _extensions_of(self, position: int, count: int) -> Extensions:
+        """Those of the entry at a position, which has so many."""
+        first = bisect_left(self._entry_extensions, position)
+        rows = [_ENTRY_EXTENSIONS.row_in(self._entry_extensions.rows, row) for row in range(first, first + count)]
+        if any(row[4] != position for row in rows):
+            raise RuntimeError("the extensions of an entry are others than the library told")
+        return read_extensions(self._buffer, [(*row[:4], row[5]) for row in rows])
+
+    def _entry(self, position: int, row: Numbers) -> RevokedCertificate:
+        at, length, seconds, count, reason, has_reason = row
+        serial, code = self._buffer.window(at, length), reason if has_reason else None
+        if not count:
+            return RevokedCertificate(serial, seconds, 0, b"", code)
+        # behind the serial stands a time, and behind that these; both are longer than six octets
+        time = self._buffer.element(at + length, 6)
+        extensions = self._buffer.element(at + length + len(time), 6)
+        return RevokedCertificate(
+            serial, seconds, count, extensions, code, lambda: self._extensions_of(position, count)
+        )
 
     def __len__(self) -> int:
         return self._number("revoked_count")
@@ -171,7 +224,7 @@ class CertificateRevocationList(SignedObject):
         """The entries, in order, made one by one."""
         found = self._rows
         for position in range(len(self)):
-            yield self._entry(_ENTRIES.row_in(found, position))
+            yield self._entry(position, _ENTRIES.row_in(found, position))
 
     @overload
     def __getitem__(self, position: int) -> RevokedCertificate: ...
@@ -183,8 +236,8 @@ class CertificateRevocationList(SignedObject):
         """The entry at a position, from 0 on, or the entries of a slice."""
         chosen = range(len(self))[position]
         if isinstance(chosen, int):
-            return self._entry(_ENTRIES.row_in(self._rows, chosen))
-        return [self._entry(_ENTRIES.row_in(self._rows, one)) for one in chosen]
+            return self._entry(chosen, _ENTRIES.row_in(self._rows, chosen))
+        return [self._entry(one, _ENTRIES.row_in(self._rows, one)) for one in chosen]
 
     def __repr__(self) -> str:
         return f"<CertificateRevocationList(issuer={self.issuer!r}, {len(self)} entries)>"

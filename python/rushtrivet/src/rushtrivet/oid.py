@@ -82,6 +82,18 @@ class ExtensionOID:
     NETSCAPE_COMMENT = ObjectIdentifier("2.16.840.1.113730.1.13")
 
 
+class ExtendedKeyUsageOID:
+    """Uses of a key that an ExtendedKeyUsage names."""
+
+    ANY_EXTENDED_KEY_USAGE = ObjectIdentifier("2.5.29.37.0")
+    SERVER_AUTH = ObjectIdentifier("1.3.6.1.5.5.7.3.1")
+    CLIENT_AUTH = ObjectIdentifier("1.3.6.1.5.5.7.3.2")
+    CODE_SIGNING = ObjectIdentifier("1.3.6.1.5.5.7.3.3")
+    EMAIL_PROTECTION = ObjectIdentifier("1.3.6.1.5.5.7.3.4")
+    TIME_STAMPING = ObjectIdentifier("1.3.6.1.5.5.7.3.8")
+    OCSP_SIGNING = ObjectIdentifier("1.3.6.1.5.5.7.3.9")
+
+
 class AttributeOID:
     """Attributes of requests."""
 

@@ -3,14 +3,14 @@
 from __future__ import annotations
 
 from dataclasses import dataclass
-from typing import Any, Callable, Iterator, List, Tuple
+from typing import Any, Callable, List, Tuple
 
 from ._library import Buffer, Caller, Kind, Numbers, Octets, RequestAttributeRow, RequestStruct, identifier, lib
 from ._names import Name
-from ._objects import KeyedObject, kept
+from ._objects import Items, KeyedObject, kept
 from .errors import AttributeNotFound
+from .extensions import Extension, Extensions
 from .oid import ObjectIdentifier
-from .values import Extension, Extensions
 
 _REQUESTS = Caller(RequestStruct, RequestAttributeRow, 8, "attribute_count")
 
@@ -25,11 +25,14 @@ class Attribute:
     """Its values: the whole SET, with its header, as it stands."""
 
 
-class Attributes:
+class Attributes(Items[Attribute]):
     """The attributes of a request, in order."""
 
     def __init__(self, attributes: Tuple[Attribute, ...]) -> None:
         self._attributes = attributes
+
+    def _items(self) -> Tuple[Attribute, ...]:
+        return self._attributes
 
     def get_attribute_for_oid(self, oid: ObjectIdentifier) -> Attribute:
         """The first attribute with that identifier, or AttributeNotFound."""
@@ -37,15 +40,6 @@ class Attributes:
             if attribute.oid == oid:
                 return attribute
         raise AttributeNotFound(f"No {oid} attribute was found", oid)
-
-    def __iter__(self) -> Iterator[Attribute]:
-        return iter(self._attributes)
-
-    def __len__(self) -> int:
-        return len(self._attributes)
-
-    def __getitem__(self, position: int) -> Attribute:
-        return self._attributes[position]
 
     def __repr__(self) -> str:
         return f"<Attributes({list(self._attributes)})>"

@@ -5,6 +5,7 @@ use Rattle.x509_extensions.specs.Extension.{extension_of}
 use Rattle.x509_extensions.specs.declared.extension.X509Extension.{X509Extension}
 use Rattle.x509_times.specs.Moments.{floor_seconds}
 use Rattle.x509_fields.specs.Times.{instant_of}
+use Rattle.x509_c.specs.Options.{is_there, there_or}
 use Rattle.x509_c.proofs.lists.revoked_row.Goals as goal
 
 pub returns : goal.returns
@@ -14,4 +15,6 @@ returns c =
       serial = c.raw_serial.ensures;
       revocation_date = (c.args.revoked.now.revocation_date, refl, date);
       extension_count = ap (λ (xs : List X509Extension). length xs) c.extensions.ensures ∙ sym (length-map c.args.revoked.now.extensions extension_of);
+      reason = c.or_zero.ensures ∙ ap (there_or 0) c.reason-reason.ensures;
+      has_reason = c.is_some.ensures ∙ ap is_there c.reason-reason.ensures;
     }

@@ -1,0 +1,151 @@
+//! Lists of revoked certificates, whose certificates are left in their octets.
+
+ghost use Rattle.std.specs.Prelude.{◌≡◌, true};
+ghost use Rattle.x509_der.specs.Primitives.{is_constructed};
+ghost use Rattle.x509_der.specs.Reading.{strict};
+ghost use Rattle.x509_fields.specs.Signed.{Signed};
+ghost use Rattle.x509_lists.specs.CertificateList.{list_heads, certificate_list, certificate_list_laws};
+ghost use Rattle.x509_lists.specs.ListEntries.{list_entries_of};
+ghost use Rattle.x509_lists.specs.RevokedEntries.{entries_left, entries_of};
+ghost use Rattle.x509_lists.specs.TbsCertList.{TbsList};
+
+use crate::entries_iter::EntriesIter;
+use crate::tbs_cert_list_entries::TbsCertListEntries;
+use std::alloc::Global;
+use x509_der::{BitString, FromDer, OfType, Outside, Place, Refused, Tries, ok};
+use x509_extensions::X509Extension;
+use x509_fields::{
+    ASN1Time, AlgorithmIdentifier, Signed, TryClone, X509Error, X509Version, read_signed,
+};
+use x509_names::X509Name;
+
+/// A list of revoked certificates (RFC 5280, section 5.1), as [`crate::CertificateRevocationList`] reads it, but for its certificates:
+/// each of them was read, and stays in its octets, so a list of any length takes the memory of its name and its own extensions. Its
+/// signature is not looked into.
+#[derive(Debug, Drop)]
+pub struct CertificateListEntries<'a> {
+    /// The part that is signed.
+    pub tbs_cert_list: TbsCertListEntries<'a>,
+    /// The algorithm of the signature.
+    pub signature_algorithm: AlgorithmIdentifier<'a>,
+    /// The bits of the signature.
+    pub signature_value: BitString<'a>,
+    pub(crate) raw: &'a [u8],
+}
+
+impl<'a> CertificateListEntries<'a> {
+    /// The version, where one is written that can be read.
+    pub fn version(&self) -> Option<X509Version>
+        ensures { result ≡ self.now.tbs_cert_list.version }
+    {
+        self.tbs_cert_list.version
+    }
+
+    /// Who signed the list.
+    pub fn issuer(&self) -> &X509Name<'a>
+        ensures { result.now ≡ self.now.tbs_cert_list.issuer }
+    {
+        &self.tbs_cert_list.issuer
+    }
+
+    /// When the list was made.
+    pub fn last_update(&self) -> ASN1Time
+        ensures { result ≡ self.now.tbs_cert_list.this_update }
+    {
+        self.tbs_cert_list.this_update
+    }
+
+    /// When the next list comes at the latest, where that is said.
+    pub fn next_update(&self) -> Option<ASN1Time>
+        ensures { result ≡ self.now.tbs_cert_list.next_update }
+    {
+        self.tbs_cert_list.next_update
+    }
+
+    /// Reads the certificates that were revoked again, one after another. The extensions of each take memory from here.
+    pub fn iter_revoked_certificates(&self, alloc: Global) -> EntriesIter<'a>
+        ensures { entries_left result ≡ entries_of self.now.tbs_cert_list.revoked_certificates }
+    {
+        self.tbs_cert_list.revoked_certificates.iter(alloc)
+    }
+
+    /// The extensions, in order; two may have one identifier.
+    pub fn extensions(&self) -> &[X509Extension<'a>]
+        ensures { result.now ≡ self.now.tbs_cert_list.extensions }
+    {
+        self.tbs_cert_list.extensions()
+    }
+
+    /// The bytes of the list: the whole element, with its header.
+    pub fn as_raw(&self) -> &'a [u8]
+        ensures { result.now ≡ (list_entries_of self.now).raw }
+    {
+        self.raw
+    }
+
+    /// The same as [`CertificateListEntries::as_raw`].
+    pub fn as_ref(&self) -> &'a [u8]
+        ensures { result.now ≡ (list_entries_of self.now).raw }
+    {
+        self.as_raw()
+    }
+}
+
+/// The list, its extensions with what their values say.
+impl<'a> FromDer<'a, X509Error> for CertificateListEntries<'a> {
+    ghost Value = { Signed TbsList };
+
+    ghost view = { list_entries_of };
+
+    ghost plan = { certificate_list };
+
+    ghost laws = { certificate_list_laws.laws.lawful };
+
+    ghost marked = { certificate_list_laws.marked };
+
+    ghost form = { strict };
+
+    ghost own_tag = { is_constructed 16 };
+
+    ghost heads = { list_heads };
+
+    ghost takes_memory = { true };
+
+    #[tactic(auto, unfolding(crate::specs::CertificateList::certificate_list))]
+    fn read_at<L: Outside>(
+        alloc: Global,
+        tries: &mut Tries,
+        place: &Place<'a, L>,
+    ) -> Result<(Self, bool), Refused<X509Error, L>> {
+        let (
+            Signed {
+                tbs,
+                signature_algorithm,
+                signature_value,
+                raw,
+            },
+            plain,
+        ) = ok!(read_signed(&OfType, alloc, tries, place));
+        let list = CertificateListEntries {
+            tbs_cert_list: tbs,
+            signature_algorithm,
+            signature_value,
+            raw,
+        };
+        Ok((list, plain))
+    }
+
+    ghost never_memory = { certificate_list_laws.laws.never_memory };
+}
+
+impl TryClone for CertificateListEntries<'_> {
+    fn try_clone(&self) -> Result<Self, X509Error> {
+        let tbs_cert_list = self.tbs_cert_list.try_clone()?;
+        Ok(CertificateListEntries {
+            tbs_cert_list,
+            signature_algorithm: self.signature_algorithm,
+            signature_value: self.signature_value,
+            raw: self.raw,
+        })
+    }
+}

@@ -1,0 +1,105 @@
+//! The entry of an issuer's serial on an indirect list.
+
+ghost use Rattle.std.specs.Prelude.{◌≡◌, ◌⊎◌, Some, None, Bool, List, map, MatchResult};
+ghost use Rattle.std.specs.List.{list_any};
+ghost use Rattle.x509_der.specs.Unsigned.{unsigned_number};
+ghost use Rattle.x509_extensions.specs.Extension.{extension_of};
+ghost use Rattle.x509_fields.specs.declared.error.X509Error.TheVariants.{InvalidExtensions, OutOfMemory};
+ghost use Rattle.x509_general_names.specs.GeneralName.{general_name_of};
+ghost use Rattle.x509_lists.specs.EntryIssuers.{IsFoundFor, is_name, is_of, place_for, said_by, unclear};
+ghost use Rattle.x509_lists.specs.ListEntries.{tbs_entries_of};
+ghost use Rattle.x509_names.specs.Names.{name_of};
+
+use crate::revoked_certificate::RevokedCertificate;
+use crate::tbs_cert_list_entries::TbsCertListEntries;
+use std::alloc::Global;
+use x509_der::{FromDer, Oid, Tries, UnsignedBytes};
+use x509_extensions::X509Extension;
+use x509_fields::X509Error;
+use x509_general_names::{GeneralName, SubjectAlternativeName};
+use x509_names::X509Name;
+
+/// The identifier of certificateIssuer (RFC 5280, section 5.3.3): 2.5.29.29.
+const CERTIFICATE_ISSUER: &[u8] = &[0x55, 0x1d, 0x1d];
+
+/// Whether this is the issuer's name, octet for octet.
+fn is_name(name: &GeneralName<'_>, issuer: &[u8]) -> bool
+    ensures { result ≡ is_name issuer.now (general_name_of name.now) }
+{
+    match name {
+        GeneralName::DirectoryName(name) => name.as_raw() == issuer,
+        _ => false,
+    }
+}
+
+/// Whether one of these is.
+fn are_of(names: &[GeneralName<'_>], issuer: &[u8]) -> bool
+    ensures { result ≡ list_any (is_name issuer.now) (map general_name_of names.now) }
+{
+    names.iter().any(|name| is_name(name, issuer))
+}
+
+/// Whether an entry with these extensions is of this issuer, where the entry before it is, or isn't.
+fn is_entry_of(
+    alloc: Global,
+    extensions: &[X509Extension<'_>],
+    issuer: &[u8],
+    before: bool,
+) -> Result<bool, X509Error>
+    ensures { MatchResult result (λ ours. is_of issuer.now before (said_by (map extension_of extensions.now)) ≡ Some ours) (λ e. (e ≡ OutOfMemory) ⊎ ((e ≡ InvalidExtensions) × (is_of issuer.now before (said_by (map extension_of extensions.now)) ≡ None))) }
+{
+    let oid = Oid::new(CERTIFICATE_ISSUER);
+    let value = match x509_extensions::find_extension(extensions, &oid) {
+        Some(extension) => extension.value,
+        None => return Ok(before),
+    };
+    match SubjectAlternativeName::read(alloc, &mut Tries::new(), value) {
+        Ok((rest, names)) => {
+            if !rest.is_empty() {
+                return Err(X509Error::InvalidExtensions);
+            }
+            Ok(are_of(names.general_names.as_slice(), issuer))
+        }
+        Err(e) => {
+            if e.is_out_of_memory() {
+                return Err(X509Error::OutOfMemory);
+            }
+            Err(X509Error::InvalidExtensions)
+        }
+    }
+}
+
+impl<'a> TbsCertListEntries<'a> {
+    /// The first entry of this issuer's certificate with this serial, and its position (RFC 5280, section 5.3.3). An entry is of the issuers
+    /// that its certificateIssuer names; where it has none, of those of the entry before it, and the first, of the list's own issuer. Names are
+    /// compared octet for octet. An entry whose extensions can't be read at all has none: a strict reading refuses such a list.
+    ///
+    /// # Errors
+    ///
+    /// `InvalidExtensions` where a certificateIssuer up to that entry can't be read, so that nobody knows whose the entries behind it are; and
+    /// `OutOfMemory`.
+    pub fn find_for(
+        &self,
+        alloc: Global,
+        issuer: &X509Name<'_>,
+        serial: &UnsignedBytes<'_>,
+    ) -> Result<Option<(usize, RevokedCertificate<'a>)>, X509Error>
+        ensures { MatchResult result (IsFoundFor (tbs_entries_of self.now).revoked_certificates (place_for (name_of self.now.issuer).raw (tbs_entries_of self.now).revoked_certificates (name_of issuer.now).raw (unsigned_number serial.now))) (λ e. (e ≡ OutOfMemory) ⊎ ((e ≡ InvalidExtensions) × (place_for (name_of self.now.issuer).raw (tbs_entries_of self.now).revoked_certificates (name_of issuer.now).raw (unsigned_number serial.now) ≡ unclear))) }
+    {
+        let mut ours = self.issuer.as_raw() == issuer.as_raw();
+        let mut position = 0;
+        let mut entries = self.revoked_certificates.iter(alloc);
+        while let Some(read) = entries.next() {
+            let entry = match read {
+                Ok(entry) => entry,
+                Err(e) => return Err(e),
+            };
+            ours = is_entry_of(alloc, entry.extensions(), issuer.as_raw(), ours)?;
+            if ours & (entry.user_certificate == *serial) {
+                return Ok(Some((position, entry)));
+            }
+            position += 1;
+        }
+        Ok(None)
+    }
+}

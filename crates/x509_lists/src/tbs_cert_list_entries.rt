@@ -1,0 +1,131 @@
+//! The part of a list that is signed, its certificates left in their octets.
+
+ghost use Rattle.std.specs.Prelude.{◌≡◌, true};
+ghost use Rattle.x509_der.specs.Primitives.{is_constructed};
+ghost use Rattle.x509_der.specs.Reading.{strict};
+ghost use Rattle.x509_extensions.specs.ExtensionList.{extensions_left};
+ghost use Rattle.x509_lists.specs.TbsCertList.{TbsList, tbs_list_heads, tbs_list, tbs_list_laws};
+ghost use Rattle.x509_lists.specs.ListEntries.{tbs_entries_of};
+
+use crate::revoked_entries::RevokedEntries;
+use crate::tbs_parts::{TbsParts, read_parts};
+use std::alloc::Global;
+use x509_der::{FromDer, Outside, Place, Refused, Sequence, Tries, ok};
+use x509_extensions::{ExtensionIter, X509Extension};
+use x509_fields::{ASN1Time, AlgorithmIdentifier, TryClone, X509Error, X509Version};
+use x509_names::X509Name;
+
+/// The part of a list that is signed (RFC 5280, section 5.1.2), as [`crate::TbsCertList`] reads it, but for its certificates: these
+/// stay in their octets and take no memory.
+#[derive(Debug, Drop, PartialEq)]
+pub struct TbsCertListEntries<'a> {
+    /// The version, where one is written that can be read.
+    pub version: Option<X509Version>,
+    /// The algorithm that the signature is made with, as the signed part names it.
+    pub signature: AlgorithmIdentifier<'a>,
+    /// Who signed the list.
+    pub issuer: X509Name<'a>,
+    /// When the list was made.
+    pub this_update: ASN1Time,
+    /// When the next one comes at the latest, where that is said.
+    pub next_update: Option<ASN1Time>,
+    /// The certificates that were revoked, in order: all of them, or none where none are written.
+    pub revoked_certificates: RevokedEntries<'a>,
+    pub(crate) extensions: Sequence<X509Extension<'a>>,
+    pub(crate) raw: &'a [u8],
+}
+
+impl<'a> TbsCertListEntries<'a> {
+    /// The extensions, in order; two may have one identifier.
+    pub fn extensions(&self) -> &[X509Extension<'a>]
+        ensures { result.now ≡ self.now.extensions }
+    {
+        self.extensions.as_slice()
+    }
+
+    /// Iterates over the extensions, in order.
+    pub fn iter_extensions(&self) -> ExtensionIter<'_, 'a>
+        ensures { extensions_left result ≡ self.now.extensions }
+    {
+        ExtensionIter::new(self.extensions())
+    }
+
+    /// The bytes that are signed: the whole element, with its header.
+    pub fn as_ref(&self) -> &'a [u8]
+        ensures { result.now ≡ (tbs_entries_of self.now).raw }
+    {
+        self.raw
+    }
+}
+
+/// The signed part alone, extensions with what their values say.
+impl<'a> FromDer<'a, X509Error> for TbsCertListEntries<'a> {
+    ghost Value = { TbsList };
+
+    ghost view = { tbs_entries_of };
+
+    ghost plan = { tbs_list };
+
+    ghost laws = { tbs_list_laws.laws.lawful };
+
+    ghost marked = { tbs_list_laws.marked };
+
+    ghost form = { strict };
+
+    ghost own_tag = { is_constructed 16 };
+
+    ghost heads = { tbs_list_heads };
+
+    ghost takes_memory = { true };
+
+    fn read_at<L: Outside>(
+        alloc: Global,
+        tries: &mut Tries,
+        place: &Place<'a, L>,
+    ) -> Result<(Self, bool), Refused<X509Error, L>> {
+        let (
+            TbsParts {
+                version,
+                issue,
+                revoked,
+                extensions,
+                raw,
+            },
+            plain,
+        ) = ok!(read_parts(alloc, tries, place));
+        let revoked_certificates = match revoked {
+            Some(entries) => entries,
+            None => RevokedEntries::none(),
+        };
+        let tbs = TbsCertListEntries {
+            version,
+            signature: issue.signature,
+            issuer: issue.issuer,
+            this_update: issue.this_update,
+            next_update: issue.next_update,
+            revoked_certificates,
+            extensions,
+            raw,
+        };
+        Ok((tbs, plain))
+    }
+
+    ghost never_memory = { tbs_list_laws.laws.never_memory };
+}
+
+impl TryClone for TbsCertListEntries<'_> {
+    fn try_clone(&self) -> Result<Self, X509Error> {
+        let issuer = self.issuer.try_clone()?;
+        let extensions = self.extensions.try_clone()?;
+        Ok(TbsCertListEntries {
+            version: self.version,
+            signature: self.signature,
+            issuer,
+            this_update: self.this_update,
+            next_update: self.next_update,
+            revoked_certificates: self.revoked_certificates,
+            extensions,
+            raw: self.raw,
+        })
+    }
+}
