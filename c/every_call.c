@@ -87,6 +87,9 @@ static void others(const uint8_t *it, size_t length) {
     rtv_bytes oids[ROOM], id = RTV_NO_BYTES;
     rtv_policy policies[ROOM];
     rtv_qualifier qualifiers[ROOM];
+    rtv_policy_qualifier placed[ROOM];
+    rtv_distribution_point points[ROOM];
+    rtv_point_name point_names[ROOM];
     rtv_access accesses[ROOM];
     rtv_timestamp timestamps[ROOM];
     for (size_t room = 0; room <= ROOM; room += room ? ROOM - 1 : 1) {
@@ -99,6 +102,8 @@ static void others(const uint8_t *it, size_t length) {
         rtv_init_bytes(oids, ROOM);
         rtv_init_policies(policies, ROOM);
         rtv_init_qualifiers(qualifiers, ROOM);
+        rtv_init_policy_qualifiers(placed, ROOM);
+        rtv_init_point_names(point_names, ROOM);
         rtv_init_accesses(accesses, ROOM);
         rtv_init_timestamps(timestamps, ROOM);
         rtv_status status = rtv_read_extended_key_usage(it, length, &usage, oids, room, &at);
@@ -124,6 +129,12 @@ static void others(const uint8_t *it, size_t length) {
         if (status == RTV_OK) must(rtv_read_qualifiers(it, length, count, qualifiers, room, &count, &at) == RTV_NOT_FOUND, "a policy too many");
         at = 9;
         count = 0;
+        rtv_status again = rtv_read_policy_qualifiers(it, length, placed, room, &count, &at);
+        told(again, at, 9, length);
+        must(again == status, "two readings of one value");
+        for (size_t k = 0; k < count && k < room; k++) within(it, length, placed[k].value);
+        at = 9;
+        count = 0;
         status = rtv_read_accesses(it, length, accesses, room, &count, &at);
         told(status, at, 9, length);
         for (size_t k = 0; k < count && k < room; k++) within(it, length, accesses[k].location.value);
@@ -134,6 +145,22 @@ static void others(const uint8_t *it, size_t length) {
             told(status, at, 9, length);
             must((status == RTV_OK) == (point.name_kind != 7), "a result of a refusal");
         }
+        at = 9;
+        count = 0;
+        status = rtv_read_distribution_points(it, length, points, room, &count, &at);
+        told(status, at, 9, length);
+        at = 9;
+        count = 0;
+        again = rtv_read_point_names(it, length, point_names, room, &count, &at);
+        told(again, at, 9, length);
+        must(again == status, "two readings of one value");
+        for (size_t k = 0; k < count && k < room; k++) within(it, length, point_names[k].name.value);
+        at = 9;
+        count = 0;
+        again = rtv_read_point_issuers(it, length, point_names, room, &count, &at);
+        told(again, at, 9, length);
+        must(again == status, "two readings of one value");
+        for (size_t k = 0; k < count && k < room; k++) within(it, length, point_names[k].name.value);
         at = 9;
         status = rtv_read_name_constraints(it, length, &constraints, names, room, more, room, &at);
         told(status, at, 9, length);

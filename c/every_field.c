@@ -104,6 +104,19 @@ static void policies(rtv_bytes it) {
     }
 }
 
+static void policy_qualifiers(rtv_bytes it) {
+    rtv_policy_qualifier rows[ROOM];
+    size_t count = 0, at = 0;
+    rtv_init_policy_qualifiers(rows, ROOM);
+    if (rtv_read_policy_qualifiers(it.at, it.length, rows, ROOM, &count, &at) != RTV_OK) return;
+    number("qualifiers", count);
+    for (size_t k = 0; k < count && k < ROOM; k++) {
+        number("policy", rows[k].policy);
+        octets("oid", rows[k].oid);
+        octets("value", rows[k].value);
+    }
+}
+
 static void policy_rules(rtv_bytes it) {
     rtv_policy_constraints constraints = { 7, 7, 7, 7 };
     rtv_policy_mapping rows[ROOM];
@@ -171,6 +184,34 @@ static void points(rtv_bytes it) {
         number("has_issuer", point.has_issuer);
         general_names("issuer_count", issuer, point.issuer_count);
     }
+}
+
+static void point_names(const char *what, const rtv_point_name *rows, size_t count) {
+    number(what, count);
+    for (size_t k = 0; k < count && k < ROOM; k++) {
+        number("point", rows[k].point);
+        general_name(rows[k].name);
+    }
+}
+
+static void all_points(rtv_bytes it) {
+    rtv_distribution_point rows[ROOM];
+    rtv_point_name names[ROOM];
+    size_t count = 0, at = 0;
+    if (rtv_read_distribution_points(it.at, it.length, rows, ROOM, &count, &at) != RTV_OK) return;
+    number("points", count);
+    for (size_t k = 0; k < count && k < ROOM; k++) {
+        number("name_kind", rows[k].name_kind);
+        number("name_count", rows[k].name_count);
+        number("has_reasons", rows[k].has_reasons);
+        number("reasons", rows[k].reasons);
+        number("has_issuer", rows[k].has_issuer);
+        number("issuer_count", rows[k].issuer_count);
+    }
+    rtv_init_point_names(names, ROOM);
+    if (rtv_read_point_names(it.at, it.length, names, ROOM, &count, &at) == RTV_OK) point_names("names of points", names, count);
+    rtv_init_point_names(names, ROOM);
+    if (rtv_read_point_issuers(it.at, it.length, names, ROOM, &count, &at) == RTV_OK) point_names("issuers of points", names, count);
 }
 
 static void timestamps(rtv_bytes it) {
@@ -259,9 +300,11 @@ static void value(rtv_bytes it) {
     usages(it);
     keys(it);
     policies(it);
+    policy_qualifiers(it);
     policy_rules(it);
     accesses(it);
     points(it);
+    all_points(it);
     constraints_of(it);
     timestamps(it);
     list_values(it);

@@ -267,6 +267,10 @@ static rtv_status qualifiers(call *it) {
     return rtv_read_qualifiers(it->der, it->length, it->position, (void *)it->rows[0].octets, it->room[0], &it->count[0], &it->at);
 }
 
+static rtv_status policy_qualifiers(call *it) {
+    return rtv_read_policy_qualifiers(it->der, it->length, (void *)it->rows[0].octets, it->room[0], &it->count[0], &it->at);
+}
+
 static rtv_status accesses(call *it) {
     return rtv_read_accesses(it->der, it->length, (void *)it->rows[0].octets, it->room[0], &it->count[0], &it->at);
 }
@@ -277,6 +281,18 @@ static rtv_status distribution_point(call *it) {
                                                     (void *)it->rows[1].octets, it->room[1], &it->at);
     if (status == RTV_OK) it->count[0] = head->name_count, it->count[1] = head->issuer_count;
     return status;
+}
+
+static rtv_status distribution_points(call *it) {
+    return rtv_read_distribution_points(it->der, it->length, (void *)it->rows[0].octets, it->room[0], &it->count[0], &it->at);
+}
+
+static rtv_status point_names(call *it) {
+    return rtv_read_point_names(it->der, it->length, (void *)it->rows[0].octets, it->room[0], &it->count[0], &it->at);
+}
+
+static rtv_status point_issuers(call *it) {
+    return rtv_read_point_issuers(it->der, it->length, (void *)it->rows[0].octets, it->room[0], &it->count[0], &it->at);
 }
 
 static rtv_status name_constraints(call *it) {
@@ -311,6 +327,10 @@ static const reader readers[] = {
     { "extended key usage", extended_key_usage, KIND(rtv_extended_key_usage, 0, ocsp_signing), { KIND(rtv_bytes, 1, length), NONE } },
     { "key identifier", key_identifier, KIND(rtv_bytes, 1, length), { NONE, NONE } },
     { "authority key", authority_key, KIND(rtv_authority_key, 2, has_serial), { GENERAL_NAME, NONE } },
+    { "qualifiers of policies", policy_qualifiers, NONE, { KIND(rtv_policy_qualifier, 2, policy), NONE } },
+    { "distribution points", distribution_points, NONE, { KIND(rtv_distribution_point, 0, has_issuer), NONE } },
+    { "names of points", point_names, NONE, { KIND(rtv_point_name, 2, point), NONE } },
+    { "issuers of points", point_issuers, NONE, { KIND(rtv_point_name, 2, point), NONE } },
     { "accesses", accesses, NONE, { KIND(rtv_access, 3, location.readable), NONE } },
     { "name constraints", name_constraints, KIND(rtv_name_constraints, 0, has_excluded), { GENERAL_NAME, GENERAL_NAME } },
     { "timestamps", timestamps, NONE, { KIND(rtv_timestamp, 3, signature_algorithm), NONE } },

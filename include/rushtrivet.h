@@ -334,6 +334,16 @@ typedef struct rtv_qualifier {
 rtv_status rtv_read_qualifiers(const uint8_t *value, size_t length, size_t position, rtv_qualifier *qualifiers, size_t room,
                                size_t *count, size_t *at);
 
+typedef struct rtv_policy_qualifier {
+    rtv_bytes oid;              /* contents of the identifier of its kind */
+    rtv_bytes value;            /* the octets behind the identifier */
+    size_t policy;              /* the position of its policy, from 0 on */
+} rtv_policy_qualifier;
+
+/* The qualifiers of all policies of the same value, policy by policy and in order: the first `room` are written; *count is that of all. */
+rtv_status rtv_read_policy_qualifiers(const uint8_t *value, size_t length, rtv_policy_qualifier *qualifiers, size_t room,
+                                      size_t *count, size_t *at);
+
 typedef struct rtv_policy_constraints {
     uint32_t has_require_explicit_policy;   /* 0 or 1 */
     uint32_t require_explicit_policy;       /* how many more certificates may follow in a path before each needs a policy */
@@ -378,6 +388,20 @@ typedef struct rtv_distribution_point {
 rtv_status rtv_read_distribution_point(const uint8_t *value, size_t length, size_t position, rtv_distribution_point *point,
                                        rtv_general_name *names, size_t name_room,
                                        rtv_general_name *issuer, size_t issuer_room, size_t *at);
+
+/* All points of the same value, in order: the first `room` are written; *count is that of all. */
+rtv_status rtv_read_distribution_points(const uint8_t *value, size_t length, rtv_distribution_point *points, size_t room,
+                                        size_t *count, size_t *at);
+
+typedef struct rtv_point_name {
+    rtv_general_name name;
+    size_t point;               /* the position of its point, from 0 on */
+} rtv_point_name;
+
+/* The full names of all points of the same value, point by point and in order, and those of the issuers of their lists: the first `room`
+ * are written; *count is that of all. */
+rtv_status rtv_read_point_names(const uint8_t *value, size_t length, rtv_point_name *names, size_t room, size_t *count, size_t *at);
+rtv_status rtv_read_point_issuers(const uint8_t *value, size_t length, rtv_point_name *names, size_t room, size_t *count, size_t *at);
 
 typedef struct rtv_issuing_distribution_point {
     size_t name_count;          /* its full names */
@@ -565,6 +589,11 @@ static inline void rtv_init_qualifiers(rtv_qualifier *rows, size_t count) {
     for (size_t k = 0; k < count; k++) rows[k] = none;
 }
 
+static inline void rtv_init_policy_qualifiers(rtv_policy_qualifier *rows, size_t count) {
+    static const rtv_policy_qualifier none = { RTV_NO_BYTES, RTV_NO_BYTES, 0 };
+    for (size_t k = 0; k < count; k++) rows[k] = none;
+}
+
 static inline void rtv_init_policy_mappings(rtv_policy_mapping *rows, size_t count) {
     static const rtv_policy_mapping none = { RTV_NO_BYTES, RTV_NO_BYTES };
     for (size_t k = 0; k < count; k++) rows[k] = none;
@@ -572,6 +601,11 @@ static inline void rtv_init_policy_mappings(rtv_policy_mapping *rows, size_t cou
 
 static inline void rtv_init_accesses(rtv_access *rows, size_t count) {
     static const rtv_access none = { RTV_NO_BYTES, { RTV_NO_BYTES, RTV_NO_BYTES, 0, 0 } };
+    for (size_t k = 0; k < count; k++) rows[k] = none;
+}
+
+static inline void rtv_init_point_names(rtv_point_name *rows, size_t count) {
+    static const rtv_point_name none = { { RTV_NO_BYTES, RTV_NO_BYTES, 0, 0 }, 0 };
     for (size_t k = 0; k < count; k++) rows[k] = none;
 }
 

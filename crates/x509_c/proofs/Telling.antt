@@ -1,5 +1,6 @@
 -- What a call tells of what a reader with places answers.
-use Rattle.std.proofs.Common.{◌≡◌, ℕ, ◌+◌, ◌==◌, ◌||◌, Bool, true, false, List, length, Ok, Err, refl, sym, ap, subst, inl, inr, cond, ◌⊎◌, ◌∙◌, arith}
+use Rattle.std.proofs.Common.{◌≡◌, ℕ, ◌+◌, ◌==◌, ◌||◌, Bool, true, false, List, length, map, Ok, Err, refl, sym, ap, subst, inl, inr, cond, ◌⊎◌, ◌∙◌, arith}
+use Rattle.std.proofs.lemmas.Simd.{map-map}
 use Rattle.x509_der.specs.declared.error.BerError.{BerError}
 use Rattle.x509_der.specs.declared.error.BerError.TheVariants as ber
 use Rattle.x509_der.specs.declared.error.ErrorKind.{ErrorKind}
@@ -15,6 +16,7 @@ use Rattle.x509_fields.specs.declared.error.X509Error.{X509Error}
 use Rattle.x509_fields.specs.declared.error.X509Error.TheVariants as x509
 use Rattle.x509_fields.specs.Errors.{as_x509, is_x509_memory}
 use Rattle.x509_fields.specs.Fields.{lifted}
+use Rattle.x509_c.specs.Rows.{AreTold, CountsAndShows, numbered_from}
 use Rattle.x509_c.specs.Status.{status_of, kind_status, ber_status, x509_status, lifted_refusal, placed}
 use Rattle.x509_c.specs.Tells.{Tells, TellsWhole, Done}
 
@@ -93,6 +95,30 @@ tells_memory plan buffer Shows Kept before kept = record {
   kept = λ _. kept;
   unplaced = λ _. refl;
 }
+
+-- ---- rows of items of members
+
+told : {A X R Y : Type 0} (takes_memory : Bool) (view : X → List ℕ × A) (plan : Plan (Refusal X509Error) A) (buffer : List ℕ) (Shows : R → Y → Type 0) (items : A → List Y) (old rows : List R) (before told_before count : ℕ) (x : X) (status : ℕ)
+    → ReadsWhere is_x509_memory takes_memory view plan buffer (Ok x) → AreTold Shows (items (view x).1) old told_before rows count status
+    → Tells plan buffer (λ value _. Done (CountsAndShows Shows rows count (items value))) ((rows ≡ old) × (count ≡ told_before)) before before status
+told takes_memory view plan buffer Shows items old rows before told_before count x status reads (inl done) =
+    tells_looked takes_memory view plan buffer (λ value _. Done (CountsAndShows Shows rows count (items value))) ((rows ≡ old) × (count ≡ told_before)) x before status reads done (λ other. absurd (other done.0))
+told takes_memory view plan buffer Shows items old rows before told_before count x status reads (inr two) =
+    subst (λ n. Tells plan buffer (λ value _. Done (CountsAndShows Shows rows count (items value))) ((rows ≡ old) × (count ≡ told_before)) before before n) (sym two.0)
+    (tells_memory plan buffer (λ value _. Done (CountsAndShows Shows rows count (items value))) ((rows ≡ old) × (count ≡ told_before)) before two.1)
+
+-- of the members of a slice, of which all that were read are the views
+pub tells_items : {A X M V R Y : Type 0} (takes_memory : Bool) (view : X → List ℕ × A) (plan : Plan (Refusal X509Error) A) (buffer : List ℕ) (Shows : R → Y → Type 0) (of : A → List V) (own : V → List Y) (member : M → V)
+    (members all : List M) (old rows : List R) (before told_before count : ℕ) (x : X) (status : ℕ)
+    → ReadsWhere is_x509_memory takes_memory view plan buffer (Ok x) → members ≡ all → of (view x).1 ≡ map member all
+    → AreTold Shows (numbered_from 0 (map (λ m. own (member m)) members)) old told_before rows count status
+    → Tells plan buffer (λ value _. Done (CountsAndShows Shows rows count (numbered_from 0 (map own (of value))))) ((rows ≡ old) × (count ≡ told_before)) before before status
+tells_items {A} {X} {M} {V} {R} {Y} takes_memory view plan buffer Shows of own member members all old rows before told_before count x status reads slice is shown =
+    let same : numbered_from 0 (map (λ m. own (member m)) members) ≡ numbered_from 0 (map own (of (view x).1))
+    = ap (λ (ms : List M). numbered_from 0 (map (λ m. own (member m)) ms)) slice
+    ∙ ap (λ (ys : List (List Y)). numbered_from 0 ys) (sym (map-map own member all)) ∙ ap (λ (vs : List V). numbered_from 0 (map own vs)) (sym is) in
+    told takes_memory view plan buffer Shows (λ value. numbered_from 0 (map own (of value))) old rows before told_before count x status reads
+    (subst (λ (ys : List (ℕ × Y)). AreTold Shows ys old told_before rows count status) same shown)
 
 -- ---- refusals
 

@@ -1,11 +1,12 @@
 -- Distribution points as C sees them.
-use Rattle.std.specs.Prelude.{◌≡◌, ℕ, ◌<◌, ◌≤◌, ◌⊎◌, List, [], length, Option, Some, None, slice_index_or}
+use Rattle.std.specs.Prelude.{◌≡◌, ℕ, ◌<◌, ◌≤◌, ◌⊎◌, List, [], length, map, Option, Some, None, slice_index_or}
 use Rattle.x509_general_names.specs.DistributionPointName.{PointName, FullName, NameRelativeToCRLIssuer}
 use Rattle.x509_general_names.specs.DistributionPoints.{Point}
 use Rattle.x509_general_names.specs.GeneralName.{GeneralNameValue}
 use Rattle.x509_c.specs.GeneralNames.{IsGeneralNameRow}
 use Rattle.x509_c.specs.Options.{is_there, there_or}
-use Rattle.x509_c.specs.Rows.{RowsShow}
+use Rattle.x509_c.specs.Rows.{RowsShow, numbered_from}
+use Rattle.x509_c.specs.declared.distribution_points.PointNameRow.{PointNameRow}
 use Rattle.x509_c.specs.declared.distribution_points.PointRow.{PointRow}
 use Rattle.x509_c.specs.declared.general_names.GeneralNameRow.{GeneralNameRow}
 
@@ -38,3 +39,16 @@ pub record ShowsPoint (point : Point) (row : PointRow) (names issuer : List Gene
 abbrev pub FindsPoint : List Point → ℕ → PointRow → List GeneralNameRow → List GeneralNameRow → ℕ → Type 0
 FindsPoint points position row names issuer status =
     ((status ≡ 0) × (position < length points) × ((none : Point) → ShowsPoint (slice_index_or points position none) row names issuer)) ⊎ ((status ≡ 50) × (length points ≤ position))
+
+-- a name, and the position of its point
+pub record IsPointNameRow (row : PointNameRow) (placed : ℕ × GeneralNameValue) : Type 0 where
+  pub name : IsGeneralNameRow row.name placed.1
+  pub point : row.point ≡ placed.0
+
+-- the full names of all points in order, each with the position of its point
+abbrev pub names_of_points : List Point → List (ℕ × GeneralNameValue)
+names_of_points points = numbered_from 0 (map (λ point. full_names point.name) points)
+
+-- the names of the issuers of their lists
+abbrev pub issuers_of_points : List Point → List (ℕ × GeneralNameValue)
+issuers_of_points points = numbered_from 0 (map (λ point. there_or [] point.issuer) points)

@@ -1,9 +1,9 @@
 -- The extensions of a list's entries as C sees them (RFC 5280, 5.3).
-use Rattle.std.specs.Prelude.{◌≡◌, ℕ, List, length, map}
+use Rattle.std.specs.Prelude.{◌≡◌, ℕ, List, map}
 use Rattle.x509_extensions.specs.Extension.{Extension}
 use Rattle.x509_lists.specs.RevokedCertificate.{Revoked}
 use Rattle.x509_c.specs.Flags.{flag}
-use Rattle.x509_c.specs.Rows.{RowsShow, numbered_from}
+use Rattle.x509_c.specs.Rows.{numbered_from}
 use Rattle.x509_c.specs.declared.entry_extensions.EntryExtensionRow.{EntryExtensionRow}
 
 -- an extension, and the position of its entry
@@ -16,8 +16,3 @@ pub record IsEntryExtensionRow (row : EntryExtensionRow) (placed : ℕ × Extens
 -- those of all entries in order, each with the position of its entry
 abbrev pub entry_extensions : List Revoked → List (ℕ × Extension)
 entry_extensions entries = numbered_from 0 (map (λ r. r.extensions) entries)
-
--- all are counted, and shown as far as there are rows
-pub record ShowsEntryExtensions (rows : List EntryExtensionRow) (told : ℕ) (entries : List Revoked) : Type 0 where
-  pub count : told ≡ length (entry_extensions entries)
-  pub shown : RowsShow IsEntryExtensionRow rows (entry_extensions entries)

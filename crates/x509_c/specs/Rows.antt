@@ -1,5 +1,5 @@
 -- Rows of the caller.
-use Rattle.std.specs.Prelude.{◌≡◌, ℕ, ◌<◌, ◌+◌, List, [], ◌∷◌, ◌++◌, length, map, min, slice_index_or}
+use Rattle.std.specs.Prelude.{◌≡◌, ℕ, ◌<◌, ◌+◌, ◌⊎◌, List, [], ◌∷◌, ◌++◌, length, map, min, slice_index_or}
 
 -- each row below an index shows its item
 abbrev pub RowsShowBelow : {R X : Type 0} → (R → X → Type 0) → ℕ → List R → List X → Type 0
@@ -14,6 +14,16 @@ pub record ContinuesRows {R X : Type 0} (Shows : R → X → Type 0) (before : �
   pub count : after ≡ min (length new) (before + length items)
   pub kept : (k : ℕ) (r : R) → k < before → slice_index_or new k r ≡ slice_index_or old k r
   pub shown : (k : ℕ) (r : R) (x : X) → before + k < after → Shows (slice_index_or new (before + k) r) (slice_index_or items k x)
+
+-- all items are counted, and shown as far as there are rows
+pub record CountsAndShows {R X : Type 0} (Shows : R → X → Type 0) (rows : List R) (told : ℕ) (items : List X) : Type 0 where
+  pub count : told ≡ length items
+  pub shown : RowsShow Shows rows items
+
+-- status 0 and that, or 2 and rows and count as they were
+abbrev pub AreTold : {R X : Type 0} → (R → X → Type 0) → List X → List R → ℕ → List R → ℕ → ℕ → Type 0
+AreTold Shows items rows told new_rows new_told status =
+    ((status ≡ 0) × CountsAndShows Shows new_rows new_told items) ⊎ ((status ≡ 2) × (new_rows ≡ rows) × (new_told ≡ told))
 
 -- ---- items of members
 

@@ -5,9 +5,10 @@ use Rattle.x509_values.specs.ExtendedKeyUsage.{Usages}
 use Rattle.x509_values.specs.Policies.{PolicyQualifierValue, PolicyValue}
 use Rattle.x509_c.specs.Flags.{flag}
 use Rattle.x509_c.specs.Options.{is_there, there_or}
-use Rattle.x509_c.specs.Rows.{RowsShow}
+use Rattle.x509_c.specs.Rows.{RowsShow, numbered_from}
 use Rattle.x509_c.specs.declared.octets.OctetsRow.{OctetsRow}
 use Rattle.x509_c.specs.declared.values.BasicConstraintsRow.{BasicConstraintsRow}
+use Rattle.x509_c.specs.declared.values.PolicyQualifierRow.{PolicyQualifierRow}
 use Rattle.x509_c.specs.declared.values.PolicyRow.{PolicyRow}
 use Rattle.x509_c.specs.declared.values.QualifierRow.{QualifierRow}
 use Rattle.x509_c.specs.declared.values.UsagesRow.{UsagesRow}
@@ -62,3 +63,13 @@ pub record ShowsQualifiers (policies : List PolicyValue) (position : ℕ) (writt
 abbrev pub FindsQualifiers : List PolicyValue → ℕ → List QualifierRow → ℕ → ℕ → Type 0
 FindsQualifiers policies position written told status =
     ((status ≡ 0) × ShowsQualifiers policies position written told) ⊎ ((status ≡ 50) × (length policies ≤ position))
+
+-- a qualifier, and the position of its policy
+pub record IsPolicyQualifierRow (row : PolicyQualifierRow) (placed : ℕ × PolicyQualifierValue) : Type 0 where
+  pub oid : row.oid.now ≡ placed.1.policy_qualifier_id
+  pub value : row.value.now ≡ placed.1.qualifier
+  pub policy : row.policy ≡ placed.0
+
+-- those of all policies in order, each with the position of its policy
+abbrev pub policy_qualifiers : List PolicyValue → List (ℕ × PolicyQualifierValue)
+policy_qualifiers policies = numbered_from 0 (map qualifiers policies)

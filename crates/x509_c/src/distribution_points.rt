@@ -1,16 +1,17 @@
 //! Where lists of revoked certificates are found.
 
 ghost use Rattle.std.specs.Prelude.{◌≡◌, [], length, map};
-ghost use Rattle.x509_general_names.specs.DistributionPoints.{crl_distribution_points, point_of};
-ghost use Rattle.x509_general_names.specs.GeneralName.{general_name_of};
-ghost use Rattle.x509_c.specs.DistributionPoints.{FindsPoint, IsPointRow, ShowsPoint, full_names, name_kind};
+ghost use Rattle.x509_general_names.specs.DistributionPoints.{Point, crl_distribution_points, point_of};
+ghost use Rattle.x509_general_names.specs.GeneralName.{GeneralNameValue, general_name_of};
+ghost use Rattle.x509_c.specs.DistributionPoints.{FindsPoint, IsPointNameRow, IsPointRow, ShowsPoint, full_names, issuers_of_points, name_kind, names_of_points};
 ghost use Rattle.x509_c.specs.GeneralNames.{IsGeneralNameRow};
 ghost use Rattle.x509_c.specs.Options.{is_there, there_or};
-ghost use Rattle.x509_c.specs.Tells.{Tells};
+ghost use Rattle.x509_c.specs.Rows.{CountsAndShows};
+ghost use Rattle.x509_c.specs.Tells.{Tells, Done};
 
 use crate::general_names::GeneralNameRow;
 use crate::options::is_some;
-use crate::row_writer::put_rows;
+use crate::row_writer::{HasNumberedRow, HasRow, ItemsOf, put_rows, tell_items};
 use crate::status::{NOT_FOUND, OK, refused};
 use std::alloc::Global;
 use x509_der::FromDer;
@@ -126,6 +127,141 @@ pub extern "C" fn rtv_read_distribution_point<'a>(
 {
     match CRLDistributionPoints::from_der_located(alloc, value) {
         Ok((_, read)) => find_point(read.points.as_slice(), position, point, names, issuer),
+        Err(refusal) => refused(refusal, at),
+    }
+}
+
+impl<'a> HasRow for CRLDistributionPoint<'a> {
+    type Row = PointRow;
+
+    ghost Value = { Point };
+
+    ghost view = { point_of };
+
+    ghost Shows = { IsPointRow };
+
+    fn row(&self) -> PointRow {
+        point_row(self)
+    }
+}
+
+/// All distribution points (RFC 5280, section 4.2.1.13): they are written in order, as many as there are rows, and all of them are counted.
+#[unsafe(no_mangle)]
+pub extern "C" fn rtv_read_distribution_points(
+    alloc: Global,
+    value: &[u8],
+    points: &mut [PointRow],
+    count: &mut usize,
+    at: &mut usize,
+) -> u32
+    ensures { Tells crl_distribution_points value.now
+        (λ read _. Done (CountsAndShows IsPointRow points.new count.new read))
+        ((points.new ≡ points.old) × (count.new ≡ count.old))
+        at.old at.new result }
+{
+    match CRLDistributionPoints::from_der_located(alloc, value) {
+        Ok((_, read)) => {
+            let read = read.points.as_slice();
+            put_rows(points, read);
+            *count = read.len();
+            OK
+        }
+        Err(refusal) => refused(refusal, at),
+    }
+}
+
+/// A general name, and the position of its point: `rtv_point_name` of rushtrivet.h.
+#[repr(C)]
+#[derive(Clone, Copy)]
+pub struct PointNameRow<'a> {
+    /// The name.
+    pub name: GeneralNameRow<'a>,
+    /// The position of its point, from 0 on.
+    pub point: usize,
+}
+
+impl<'a> HasNumberedRow for GeneralName<'a> {
+    type Row = PointNameRow<'a>;
+
+    ghost Value = { GeneralNameValue };
+
+    ghost view = { general_name_of };
+
+    ghost Shows = { IsPointNameRow };
+
+    fn numbered_row(&self, number: usize) -> PointNameRow<'a> {
+        PointNameRow {
+            name: self.row(),
+            point: number,
+        }
+    }
+}
+
+/// The full names of points.
+struct PointNames;
+
+impl<'a> ItemsOf<CRLDistributionPoint<'a>, GeneralName<'a>> for PointNames {
+    ghost own = { λ point. full_names (point_of point).name };
+
+    fn items<'v>(member: &'v CRLDistributionPoint<'a>) -> &'v [GeneralName<'a>] {
+        point_names(member)
+    }
+}
+
+/// The names of the issuers of points' lists.
+struct PointIssuers;
+
+impl<'a> ItemsOf<CRLDistributionPoint<'a>, GeneralName<'a>> for PointIssuers {
+    ghost own = { λ point. there_or [] (point_of point).issuer };
+
+    fn items<'v>(member: &'v CRLDistributionPoint<'a>) -> &'v [GeneralName<'a>] {
+        issuer_names(member)
+    }
+}
+
+/// The full names of all distribution points (RFC 5280, section 4.2.1.13): they are written in order, as many as there are rows, each with
+/// the position of its point, and all of them are counted.
+#[unsafe(no_mangle)]
+pub extern "C" fn rtv_read_point_names<'a>(
+    alloc: Global,
+    value: &'a [u8],
+    names: &mut [PointNameRow<'a>],
+    count: &mut usize,
+    at: &mut usize,
+) -> u32
+    ensures { Tells crl_distribution_points value.now
+        (λ read _. Done (CountsAndShows IsPointNameRow names.new count.new (names_of_points read)))
+        ((names.new ≡ names.old) × (count.new ≡ count.old))
+        at.old at.new result }
+{
+    match CRLDistributionPoints::from_der_located(alloc, value) {
+        Ok((_, read)) => {
+            let read = read.points.as_slice();
+            tell_items::<GeneralName<'a>, _, PointNames>(names, count, read)
+        }
+        Err(refusal) => refused(refusal, at),
+    }
+}
+
+/// The names of the issuers of all distribution points' lists (RFC 5280, section 4.2.1.13), as `rtv_read_point_names` has the full names.
+#[unsafe(no_mangle)]
+pub extern "C" fn rtv_read_point_issuers<'a>(
+    alloc: Global,
+    value: &'a [u8],
+    names: &mut [PointNameRow<'a>],
+    count: &mut usize,
+    at: &mut usize,
+) -> u32
+    ensures { Tells crl_distribution_points value.now
+        (λ read _. Done (CountsAndShows IsPointNameRow names.new count.new (issuers_of_points read)))
+        ((names.new ≡ names.old) × (count.new ≡ count.old))
+        at.old at.new result }
+{
+    match CRLDistributionPoints::from_der_located(alloc, value) {
+        Ok((_, read)) => {
+            let read = read.points.as_slice();
+            tell_items::<GeneralName<'a>, _, PointIssuers>(names, count, read)
+        }
         Err(refusal) => refused(refusal, at),
     }
 }

@@ -3,11 +3,13 @@
 ghost use Rattle.std.specs.Prelude.{◌≡◌};
 ghost use Rattle.x509_extensions.specs.Extension.{Extension, extension_of};
 ghost use Rattle.x509_lists.specs.CertificateList.{certificate_list};
-ghost use Rattle.x509_c.specs.EntryExtensions.{IsEntryExtensionRow, ShowsEntryExtensions};
+ghost use Rattle.x509_lists.specs.RevokedCertificate.{revoked_of};
+ghost use Rattle.x509_c.specs.EntryExtensions.{IsEntryExtensionRow, entry_extensions};
+ghost use Rattle.x509_c.specs.Rows.{CountsAndShows};
 ghost use Rattle.x509_c.specs.Tells.{Tells, Done};
 
-use crate::row_writer::{HasItems, HasNumberedRow, count_items, put_items};
-use crate::status::{OK, OUT_OF_MEMORY, refused};
+use crate::row_writer::{HasNumberedRow, ItemsOf, tell_items};
+use crate::status::refused;
 use std::alloc::Global;
 use x509_der::FromDer;
 use x509_extensions::X509Extension;
@@ -46,11 +48,14 @@ impl<'a> HasNumberedRow for X509Extension<'a> {
     }
 }
 
-impl<'a> HasItems<X509Extension<'a>> for RevokedCertificate<'a> {
-    ghost own = { λ r. r.extensions };
+/// The extensions of entries.
+struct EntryExtensions;
 
-    fn items(&self) -> &[X509Extension<'a>] {
-        self.extensions()
+impl<'a> ItemsOf<RevokedCertificate<'a>, X509Extension<'a>> for EntryExtensions {
+    ghost own = { λ r. (revoked_of r).extensions };
+
+    fn items<'v>(member: &'v RevokedCertificate<'a>) -> &'v [X509Extension<'a>] {
+        member.extensions()
     }
 }
 
@@ -65,21 +70,14 @@ pub extern "C" fn rtv_read_entry_extensions<'a>(
     at: &mut usize,
 ) -> u32
     ensures { Tells certificate_list der.now
-        (λ list _. Done (ShowsEntryExtensions rows.new count.new list.tbs.revoked_certificates))
+        (λ list _. Done (CountsAndShows IsEntryExtensionRow rows.new count.new (entry_extensions list.tbs.revoked_certificates)))
         ((rows.new ≡ rows.old) × (count.new ≡ count.old))
         at.old at.new result }
 {
     match CertificateRevocationList::from_der_located(alloc, der) {
         Ok((_, list)) => {
             let entries = list.tbs_cert_list.revoked_certificates.as_slice();
-            match count_items::<X509Extension<'a>, _>(entries) {
-                Some(counted) => {
-                    put_items::<X509Extension<'a>, _>(rows, entries);
-                    *count = counted;
-                    OK
-                }
-                None => OUT_OF_MEMORY,
-            }
+            tell_items::<X509Extension<'a>, _, EntryExtensions>(rows, count, entries)
         }
         Err(refusal) => refused(refusal, at),
     }

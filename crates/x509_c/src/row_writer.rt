@@ -1,7 +1,9 @@
 //! Rows of the caller, one for each item.
 
 ghost use Rattle.std.specs.Prelude.{◌≡◌, ◌<◌, ◌≤◌, ℕ, IfSome, List, length, map};
-ghost use Rattle.x509_c.specs.Rows.{ContinuesRows, RowsShow, numbered, numbered_from};
+ghost use Rattle.x509_c.specs.Rows.{AreTold, ContinuesRows, RowsShow, numbered, numbered_from};
+
+use crate::status::{OK, OUT_OF_MEMORY};
 
 /// What C sees as a row.
 pub(crate) trait HasRow {
@@ -49,13 +51,13 @@ pub(crate) trait HasNumberedRow {
         ensures { Shows result (number, view self.now) };
 }
 
-/// A member of a list, with items of its own.
-pub(crate) trait HasItems<T: HasNumberedRow> {
-    ghost own: { Self → List T };
+/// Which items the members of a list have.
+pub(crate) trait ItemsOf<M, T: HasNumberedRow> {
+    ghost own: { M → List T.Value };
 
-    /// Its items.
-    fn items(&self) -> &[T]
-        ensures { result.now ≡ own self.now };
+    /// Those of a member.
+    fn items(member: &M) -> &[T]
+        ensures { map T.view result.now ≡ own member.now };
 }
 
 /// Writes the rows of a member's items behind the rows that are written, as many as have room, and gives how many are written then.
@@ -76,22 +78,41 @@ fn put_numbered<T: HasNumberedRow>(
 }
 
 /// Writes the rows of all members' items, in order, as many as there are rows.
-pub(crate) fn put_items<T: HasNumberedRow, M: HasItems<T>>(rows: &mut [T::Row], members: &[M])
-    ensures { RowsShow T.Shows rows.new (numbered_from 0 (map (λ m. map T.view (M.own m)) members.now)) }
+fn put_items<T: HasNumberedRow, M, S: ItemsOf<M, T>>(rows: &mut [T::Row], members: &[M])
+    ensures { RowsShow T.Shows rows.new (numbered_from 0 (map S.own members.now)) }
 {
     let mut written = 0;
     for i in 0..members.len() {
-        written = put_numbered(rows, written, i, members[i].items());
+        written = put_numbered(rows, written, i, S::items(&members[i]));
     }
 }
 
 /// How many items the members have; none where no number tells it.
-pub(crate) fn count_items<T: HasNumberedRow, M: HasItems<T>>(members: &[M]) -> Option<usize>
-    ensures { IfSome result (λ count. count ≡ length (numbered_from 0 (map (λ m. map T.view (M.own m)) members.now))) }
+fn count_items<T: HasNumberedRow, M, S: ItemsOf<M, T>>(members: &[M]) -> Option<usize>
+    ensures { IfSome result (λ count. count ≡ length (numbered_from 0 (map S.own members.now))) }
 {
     let mut count = 0usize;
     for i in 0..members.len() {
-        count = count.checked_add(members[i].items().len())?;
+        count = count.checked_add(S::items(&members[i]).len())?;
     }
     Some(count)
+}
+
+/// Writes the rows of all members' items, in order, as many as there are rows, and counts all of them; want of memory where no number tells
+/// how many there are.
+pub(crate) fn tell_items<T: HasNumberedRow, M, S: ItemsOf<M, T>>(
+    rows: &mut [T::Row],
+    count: &mut usize,
+    members: &[M],
+) -> u32
+    ensures { AreTold T.Shows (numbered_from 0 (map S.own members.now)) rows.old count.old rows.new count.new result }
+{
+    match count_items::<T, M, S>(members) {
+        Some(counted) => {
+            put_items::<T, M, S>(rows, members);
+            *count = counted;
+            OK
+        }
+        None => OUT_OF_MEMORY,
+    }
 }

@@ -8,10 +8,11 @@ ghost use Rattle.x509_values.specs.KeyUsage.{key_usage};
 ghost use Rattle.x509_values.specs.Policies.{PolicyQualifierValue, PolicyValue, policies, policy_of, policy_qualifier_of};
 ghost use Rattle.x509_c.specs.Tells.{Tells, Done};
 ghost use Rattle.x509_c.specs.Values.{AreOctets, IsBasicConstraintsRow, IsPolicyRow, IsUsagesRow, ShowsPolicies, ShowsUsages, FindsQualifiers};
-ghost use Rattle.x509_c.specs.Values.{IsQualifierRow, qualifiers};
+ghost use Rattle.x509_c.specs.Values.{IsPolicyQualifierRow, IsQualifierRow, policy_qualifiers, qualifiers};
+ghost use Rattle.x509_c.specs.Rows.{CountsAndShows};
 
 use crate::octets::OctetsRow;
-use crate::row_writer::{HasRow, put_rows};
+use crate::row_writer::{HasNumberedRow, HasRow, ItemsOf, put_rows, tell_items};
 use crate::status::{NOT_FOUND, OK, refused};
 use std::alloc::Global;
 use x509_der::{FromDer, Oid};
@@ -295,6 +296,71 @@ pub extern "C" fn rtv_read_qualifiers<'a>(
 {
     match PolicyList::from_der_located(alloc, value) {
         Ok((_, read)) => find_qualifiers(read.policies.as_slice(), position, rows, count),
+        Err(refusal) => refused(refusal, at),
+    }
+}
+
+/// A qualifier, and the position of its policy: `rtv_policy_qualifier` of rushtrivet.h.
+#[repr(C)]
+#[derive(Clone, Copy)]
+pub struct PolicyQualifierRow<'a> {
+    /// The contents of the identifier of its kind.
+    pub oid: &'a [u8],
+    /// The octets behind the identifier.
+    pub value: &'a [u8],
+    /// The position of its policy, from 0 on.
+    pub policy: usize,
+}
+
+impl<'a> HasNumberedRow for PolicyQualifierInfo<'a> {
+    type Row = PolicyQualifierRow<'a>;
+
+    ghost Value = { PolicyQualifierValue };
+
+    ghost view = { policy_qualifier_of };
+
+    ghost Shows = { IsPolicyQualifierRow };
+
+    fn numbered_row(&self, number: usize) -> PolicyQualifierRow<'a> {
+        PolicyQualifierRow {
+            oid: self.policy_qualifier_id.as_bytes(),
+            value: self.qualifier,
+            policy: number,
+        }
+    }
+}
+
+/// The qualifiers of policies.
+struct PolicyQualifiers;
+
+impl<'a> ItemsOf<PolicyInformation<'a>, PolicyQualifierInfo<'a>> for PolicyQualifiers {
+    ghost own = { λ policy. qualifiers (policy_of policy) };
+
+    fn items<'v>(member: &'v PolicyInformation<'a>) -> &'v [PolicyQualifierInfo<'a>] {
+        qualifiers_of(member)
+    }
+}
+
+/// The qualifiers of all policies (RFC 5280, section 4.2.1.4): they are written in order, as many as there are rows, each with the position
+/// of its policy, and all of them are counted.
+#[unsafe(no_mangle)]
+pub extern "C" fn rtv_read_policy_qualifiers<'a>(
+    alloc: Global,
+    value: &'a [u8],
+    rows: &mut [PolicyQualifierRow<'a>],
+    count: &mut usize,
+    at: &mut usize,
+) -> u32
+    ensures { Tells policies value.now
+        (λ read _. Done (CountsAndShows IsPolicyQualifierRow rows.new count.new (policy_qualifiers read)))
+        ((rows.new ≡ rows.old) × (count.new ≡ count.old))
+        at.old at.new result }
+{
+    match PolicyList::from_der_located(alloc, value) {
+        Ok((_, read)) => {
+            let read = read.policies.as_slice();
+            tell_items::<PolicyQualifierInfo<'a>, _, PolicyQualifiers>(rows, count, read)
+        }
         Err(refusal) => refused(refusal, at),
     }
 }

@@ -197,6 +197,12 @@ class QualifierRow(ctypes.Structure):
     _fields_ = [("oid", Bytes), ("value", Bytes)]
 
 
+class PolicyQualifierRow(ctypes.Structure):
+    """A qualifier, and the position of its policy."""
+
+    _fields_ = [("oid", Bytes), ("value", Bytes), ("policy", c_size_t)]
+
+
 class AccessRow(ctypes.Structure):
     """An access to more information."""
 
@@ -204,7 +210,7 @@ class AccessRow(ctypes.Structure):
 
 
 class DistributionPointStruct(ctypes.Structure):
-    """What rtv_read_distribution_point tells."""
+    """What is told of a distribution point."""
 
     _fields_ = [
         ("name_count", c_size_t),
@@ -214,6 +220,12 @@ class DistributionPointStruct(ctypes.Structure):
         ("reasons", c_uint32),
         ("has_issuer", c_uint32),
     ]
+
+
+class PointNameRow(ctypes.Structure):
+    """A general name, and the position of its distribution point."""
+
+    _fields_ = [("name", GeneralNameRow), ("point", c_size_t)]
 
 
 class NameConstraintsStruct(ctypes.Structure):
@@ -327,8 +339,10 @@ STRUCTS: Dict[str, Type[ctypes.Structure]] = {
     "rtv_authority_key": AuthorityKeyStruct,
     "rtv_policy": PolicyRow,
     "rtv_qualifier": QualifierRow,
+    "rtv_policy_qualifier": PolicyQualifierRow,
     "rtv_access": AccessRow,
     "rtv_distribution_point": DistributionPointStruct,
+    "rtv_point_name": PointNameRow,
     "rtv_name_constraints": NameConstraintsStruct,
     "rtv_timestamp": TimestampRow,
     "rtv_policy_constraints": PolicyConstraintsStruct,
@@ -388,6 +402,7 @@ CALLS: Dict[str, Tuple[Any, List[Any]]] = {
     ),
     "rtv_read_policies": (c_uint32, [*_OCTETS, POINTER(PolicyRow), c_size_t, _SIZE, _SIZE]),
     "rtv_read_qualifiers": (c_uint32, [*_OCTETS, c_size_t, POINTER(QualifierRow), c_size_t, _SIZE, _SIZE]),
+    "rtv_read_policy_qualifiers": (c_uint32, [*_OCTETS, POINTER(PolicyQualifierRow), c_size_t, _SIZE, _SIZE]),
     "rtv_read_accesses": (c_uint32, [*_OCTETS, POINTER(AccessRow), c_size_t, _SIZE, _SIZE]),
     "rtv_read_distribution_point": (
         c_uint32,
@@ -402,6 +417,9 @@ CALLS: Dict[str, Tuple[Any, List[Any]]] = {
             _SIZE,
         ],
     ),
+    "rtv_read_distribution_points": (c_uint32, [*_OCTETS, POINTER(DistributionPointStruct), c_size_t, _SIZE, _SIZE]),
+    "rtv_read_point_names": (c_uint32, [*_OCTETS, POINTER(PointNameRow), c_size_t, _SIZE, _SIZE]),
+    "rtv_read_point_issuers": (c_uint32, [*_OCTETS, POINTER(PointNameRow), c_size_t, _SIZE, _SIZE]),
     "rtv_read_name_constraints": (
         c_uint32,
         [

@@ -6,7 +6,8 @@ which takes longer.
 
 from __future__ import annotations
 
-from typing import Any, Callable, Dict, FrozenSet, List, Optional, Tuple, TypeVar
+from itertools import islice
+from typing import Any, Callable, Dict, FrozenSet, Iterator, List, Optional, Tuple, TypeVar
 
 from ._library import (
     AccessRow,
@@ -21,10 +22,11 @@ from ._library import (
     NameConstraintsStruct,
     Number,
     Numbers,
+    PointNameRow,
     PolicyConstraintsStruct,
     PolicyMappingRow,
+    PolicyQualifierRow,
     PolicyRow,
-    QualifierRow,
     Seconds,
     TimestampRow,
     Window,
@@ -34,7 +36,6 @@ from ._library import (
 from ._names import RelativeDistinguishedName, attribute_told
 from ._objects import signed_number
 from ._wrapped import value_in
-from .errors import Refused, Status
 from .general_names import GeneralName, general_names, names_in, network
 from .oid import ExtendedKeyUsageOID, ExtensionOID, ObjectIdentifier
 from .values import (
@@ -79,12 +80,12 @@ _CONSTRAINTS = Caller(BasicConstraintsStruct)
 _EXTENDED_USAGES = Caller(ExtendedKeyUsageStruct, Window, 8, "other_count")
 _AUTHORITY_KEYS = Caller(AuthorityKeyStruct, GeneralNameRow, 4, "issuer_count")
 _POLICIES = Caller(None, PolicyRow, 8)
-_QUALIFIERS = Caller(None, QualifierRow, 4)
+_QUALIFIERS = Caller(None, PolicyQualifierRow, 8)
 _POLICY_CONSTRAINTS = Caller(PolicyConstraintsStruct)
 _POLICY_MAPPINGS = Caller(None, PolicyMappingRow, 8)
 _ACCESSES = Caller(None, AccessRow, 8)
-_POINT_NAMES = Caller(DistributionPointStruct, GeneralNameRow, 4, "name_count")
-_POINT_ISSUERS = Caller(DistributionPointStruct, GeneralNameRow, 4, "issuer_count")
+_POINTS = Caller(None, DistributionPointStruct, 4)
+_POINT_NAMES = Caller(None, PointNameRow, 8)
 _ISSUING_POINTS = Caller(IssuingPointStruct, GeneralNameRow, 8, "name_count")
 _PERMITTED = Caller(NameConstraintsStruct, GeneralNameRow, 8, "permitted_count")
 _EXCLUDED = Caller(NameConstraintsStruct, GeneralNameRow, 8, "excluded_count")
@@ -137,12 +138,10 @@ def _told(caller: Caller, call: Call, raw: bytes) -> Tuple[Buffer, Numbers]:
     return buffer, found
 
 
-def _rows(caller: Caller, call: Call, buffer: Buffer, *position: int) -> List[Numbers]:
+def _rows(caller: Caller, call: Call, buffer: Buffer) -> List[Numbers]:
     """What a call tells of a value in rows, whose count is told apart."""
     return caller.ask(
-        lambda memory: call(
-            buffer.address, buffer.length, *position, memory.rows, memory.room, memory.counts, memory.second
-        )
+        lambda memory: call(buffer.address, buffer.length, memory.rows, memory.room, memory.counts, memory.second)
     )[1]
 
 
@@ -211,18 +210,16 @@ def _authority_key(raw: bytes) -> AuthorityKeyIdentifier:
 def _policies(raw: bytes) -> CertificatePolicies:
     buffer = Buffer(raw)
     found = _rows(_POLICIES, lib.rtv_read_policies, buffer)
+    qualifiers = _qualifiers(buffer) if any(count for _, _, count in found) else iter(())
     return CertificatePolicies(
-        tuple(
-            PolicyInformation(_oid(buffer, at, length), _qualifiers(buffer, position) if count else ())
-            for position, (at, length, count) in enumerate(found)
-        )
+        tuple(PolicyInformation(_oid(buffer, at, length), tuple(islice(qualifiers, count))) for at, length, count in found)
     )
 
 
-def _qualifiers(buffer: Buffer, position: int) -> Tuple[PolicyQualifier, ...]:
-    """Those of the policy at a position."""
-    found = _rows(_QUALIFIERS, lib.rtv_read_qualifiers, buffer, position)
-    return tuple(PolicyQualifier(_oid(buffer, *row[:2]), buffer.window(*row[2:])) for row in found)
+def _qualifiers(buffer: Buffer) -> Iterator[PolicyQualifier]:
+    """Those of all policies, in order."""
+    for row in _rows(_QUALIFIERS, lib.rtv_read_policy_qualifiers, buffer):
+        yield PolicyQualifier(_oid(buffer, *row[:2]), buffer.window(*row[2:4]))
 
 
 def _policy_constraints(raw: bytes) -> PolicyConstraints:
@@ -251,44 +248,21 @@ def _relative_name(told: List[Dict[str, Any]]) -> RelativeDistinguishedName:
     return RelativeDistinguishedName(tuple(map(attribute_told, told)))
 
 
-def _point(buffer: Buffer, position: int) -> Optional[DistributionPoint]:
-    """The point at a position; None where there is none."""
-    read = lib.rtv_read_distribution_point
-    value = (buffer.address, buffer.length, position)
-    try:
-        found, names = _POINT_NAMES.ask(
-            lambda memory: read(*value, memory.head, memory.rows, memory.room, memory.rows, 0, memory.second)
-        )
-    except Refused as refused:
-        if refused.status == Status.NOT_FOUND:
-            return None
-        raise
-    _, issuer_count, name_kind, has_reasons, reasons, has_issuer = found
-    issuer: List[Numbers] = []
-    if issuer_count:
-        _, issuer = _POINT_ISSUERS.ask(
-            lambda memory: read(*value, memory.head, memory.rows, 0, memory.rows, memory.room, memory.second)
-        )
-    return DistributionPoint(
-        full_name=names_in(buffer, names) if name_kind == 1 else None,
-        relative_name=(
-            _relative_name(value_in(b"\x55\x1d\x1f", buffer.data)[position]["relative_name"])
-            if name_kind == 2
-            else None
-        ),
-        reasons=_reasons(has_reasons, reasons),
-        crl_issuer=names_in(buffer, issuer) if has_issuer else None,
-    )
-
-
 def _points(raw: bytes) -> Tuple[DistributionPoint, ...]:
     buffer = Buffer(raw)
-    points: List[DistributionPoint] = []
-    while True:
-        point = _point(buffer, len(points))
-        if point is None:
-            return tuple(points)
-        points.append(point)
+    found = _rows(_POINTS, lib.rtv_read_distribution_points, buffer)
+    names = iter(_rows(_POINT_NAMES, lib.rtv_read_point_names, buffer))
+    issuers = iter(_rows(_POINT_NAMES, lib.rtv_read_point_issuers, buffer) if any(row[5] for row in found) else ())
+    told = value_in(b"\x55\x1d\x1f", raw) if any(row[2] == 2 for row in found) else ()
+    return tuple(
+        DistributionPoint(
+            full_name=names_in(buffer, [row[:6] for row in islice(names, name_count)]) if name_kind == 1 else None,
+            relative_name=_relative_name(told[position]["relative_name"]) if name_kind == 2 else None,
+            reasons=_reasons(has_reasons, reasons),
+            crl_issuer=names_in(buffer, [row[:6] for row in islice(issuers, issuer_count)]) if has_issuer else None,
+        )
+        for position, (name_count, issuer_count, name_kind, has_reasons, reasons, has_issuer) in enumerate(found)
+    )
 
 
 def _issuing_point(raw: bytes) -> IssuingDistributionPoint:

@@ -1,0 +1,12 @@
+-- The qualifiers of the policies that were read, or why there are none.
+use Rattle.std.proofs.Common.{refl, true}
+use Rattle.x509_values.specs.Policies.{policies, policy_of}
+use Rattle.x509_c.specs.Values.{IsPolicyQualifierRow, qualifiers}
+use Rattle.x509_c.proofs.Telling.{tells_items, tells_refused}
+use Rattle.x509_c.proofs.values.rtv_read_policy_qualifiers.Goals as goal
+
+pub returns-in-Ok : goal.returns-in-Ok
+returns-in-Ok c = tells_items true _ policies c.args.value.now IsPolicyQualifierRow (λ read. read) qualifiers policy_of _ _ _ _ c.args.at.now _ _ _ _ c.in-Ok.ensures c.as_slice-read.ensures refl c.tell_items.ensures
+
+pub returns-in-Err : goal.returns-in-Err
+returns-in-Err c = tells_refused true _ policies c.args.value.now _ _ c.in-Err.refusal c.args.at.now _ _ c.in-Err.ensures (refl, refl) c.refused.ensures.at c.refused.ensures.status
