@@ -167,6 +167,3 @@ impl<'a, const N: usize> Elements<'a, N> {
         self.end.stop()
     }
 }
-
-#[cfg(test)]
-mod tests;

@@ -306,6 +306,3 @@ impl<'a, L: Outside> Fields<'a, L> {
         self.place.bytes().is_empty()
     }
 }
-
-#[cfg(test)]
-mod tests;

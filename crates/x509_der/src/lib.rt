@@ -55,6 +55,3 @@ pub use set_of::{SetOf, read_set_of};
 pub use tries::Tries;
 pub use unsigned::UnsignedBytes;
 pub use window::Window;
-
-#[cfg(test)]
-mod tests;

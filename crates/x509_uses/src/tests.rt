@@ -4,7 +4,12 @@ use super::*;
 use std::test::Fail;
 
 mod accesses;
+mod elements;
+mod fields;
 mod forms;
+mod places;
+mod tags;
+mod unsigned;
 
 /// A certificate that is empty wherever it may be, from 1970 to the end of 2049.
 const CERTIFICATE: &[u8] =

@@ -1,5 +1,6 @@
-use super::Fields;
-use crate::{Tries, Window};
+//! The cursor over the fields of a structure.
+
+use x509_der::{Fields, Tries, Window};
 
 const TWELVE: &[u8] =
     b"\x05\x00\x05\x00\x05\x00\x05\x00\x05\x00\x05\x00\x05\x00\x05\x00\x05\x00\x05\x00\x05\x00\x05\x00";

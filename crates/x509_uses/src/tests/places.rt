@@ -1,5 +1,6 @@
-use super::Elements;
-use crate::{Stop, Tries};
+//! Where the elements of a window stand.
+
+use x509_der::{Elements, Stop, Tries};
 
 const THREE: &[u8] = b"\x05\x00\x05\x00\x05\x00";
 

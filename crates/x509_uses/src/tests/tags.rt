@@ -1,4 +1,6 @@
-use crate::Tag;
+//! The numbers of universal types.
+
+use x509_der::Tag;
 
 #[test]
 fn numbers_of_universal_types(rt: HostRuntime) {
