@@ -98,12 +98,12 @@ tells_memory plan buffer Shows Kept before kept = record {
 
 -- ---- rows of items of members
 
-told : {A X R Y : Type 0} (takes_memory : Bool) (view : X → List ℕ × A) (plan : Plan (Refusal X509Error) A) (buffer : List ℕ) (Shows : R → Y → Type 0) (items : A → List Y) (old rows : List R) (before told_before count : ℕ) (x : X) (status : ℕ)
+pub tells_rows : {A X R Y : Type 0} (takes_memory : Bool) (view : X → List ℕ × A) (plan : Plan (Refusal X509Error) A) (buffer : List ℕ) (Shows : R → Y → Type 0) (items : A → List Y) (old rows : List R) (before told_before count : ℕ) (x : X) (status : ℕ)
     → ReadsWhere is_x509_memory takes_memory view plan buffer (Ok x) → AreTold Shows (items (view x).1) old told_before rows count status
     → Tells plan buffer (λ value _. Done (CountsAndShows Shows rows count (items value))) ((rows ≡ old) × (count ≡ told_before)) before before status
-told takes_memory view plan buffer Shows items old rows before told_before count x status reads (inl done) =
+tells_rows takes_memory view plan buffer Shows items old rows before told_before count x status reads (inl done) =
     tells_looked takes_memory view plan buffer (λ value _. Done (CountsAndShows Shows rows count (items value))) ((rows ≡ old) × (count ≡ told_before)) x before status reads done (λ other. absurd (other done.0))
-told takes_memory view plan buffer Shows items old rows before told_before count x status reads (inr two) =
+tells_rows takes_memory view plan buffer Shows items old rows before told_before count x status reads (inr two) =
     subst (λ n. Tells plan buffer (λ value _. Done (CountsAndShows Shows rows count (items value))) ((rows ≡ old) × (count ≡ told_before)) before before n) (sym two.0)
     (tells_memory plan buffer (λ value _. Done (CountsAndShows Shows rows count (items value))) ((rows ≡ old) × (count ≡ told_before)) before two.1)
 
@@ -117,7 +117,7 @@ tells_items {A} {X} {M} {V} {R} {Y} takes_memory view plan buffer Shows of own m
     let same : numbered_from 0 (map (λ m. own (member m)) members) ≡ numbered_from 0 (map own (of (view x).1))
     = ap (λ (ms : List M). numbered_from 0 (map (λ m. own (member m)) ms)) slice
     ∙ ap (λ (ys : List (List Y)). numbered_from 0 ys) (sym (map-map own member all)) ∙ ap (λ (vs : List V). numbered_from 0 (map own vs)) (sym is) in
-    told takes_memory view plan buffer Shows (λ value. numbered_from 0 (map own (of value))) old rows before told_before count x status reads
+    tells_rows takes_memory view plan buffer Shows (λ value. numbered_from 0 (map own (of value))) old rows before told_before count x status reads
     (subst (λ (ys : List (ℕ × Y)). AreTold Shows ys old told_before rows count status) same shown)
 
 -- ---- refusals

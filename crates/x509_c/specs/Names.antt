@@ -1,7 +1,6 @@
 -- Names as C sees them.
-use Rattle.std.specs.Prelude.{◌≡◌, ℕ, List, length}
-use Rattle.x509_names.specs.Names.{Attribute, Name}
-use Rattle.x509_c.specs.Rows.{RowsShow, numbered_from}
+use Rattle.std.specs.Prelude.{◌≡◌, ℕ}
+use Rattle.x509_names.specs.Names.{Attribute}
 use Rattle.x509_c.specs.declared.names.AttributeRow.{AttributeRow}
 
 -- its identifier, the contents of its value, the number of the value's tag, and the number of the relative name that it stands in
@@ -10,8 +9,3 @@ pub record IsAttributeRow (row : AttributeRow) (placed : ℕ × Attribute) : Typ
   pub value : row.value.now ≡ placed.1.attr_value.contents
   pub relative : row.relative ≡ placed.0
   pub tag : row.tag ≡ placed.1.attr_value.header.tag.0
-
--- all attributes are counted, and shown as far as there are rows
-pub record ShowsName (written : List AttributeRow) (told : ℕ) (name : Name) : Type 0 where
-  pub count : told ≡ length (numbered_from 0 name.relative)
-  pub rows : RowsShow IsAttributeRow written (numbered_from 0 name.relative)

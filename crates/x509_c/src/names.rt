@@ -3,13 +3,14 @@
 ghost use Rattle.std.specs.Prelude.{◌≡◌, codes};
 ghost use Rattle.x509_der.specs.Hex.{hex_text};
 ghost use Rattle.x509_der.specs.Oid.{oid_text};
-ghost use Rattle.x509_names.specs.Names.{Attribute, attribute_of, name, name_of};
+ghost use Rattle.x509_names.specs.Names.{Attribute, attribute_of, name, name_of, relative_name_of};
 ghost use Rattle.x509_names.specs.NameTexts.{shown_name};
-ghost use Rattle.x509_c.specs.Names.{IsAttributeRow, ShowsName};
+ghost use Rattle.x509_c.specs.Names.{IsAttributeRow};
+ghost use Rattle.x509_c.specs.Rows.{CountsAndShows, numbered_from};
 ghost use Rattle.x509_c.specs.Tells.{Tells, Done};
 ghost use Rattle.x509_c.specs.Text.{ShowsText, TellsText};
 
-use crate::row_writer::{HasItems, HasNumberedRow, count_items, put_items};
+use crate::row_writer::{HasNumberedRow, ItemsOf, tell_items};
 use crate::status::{OK, OUT_OF_MEMORY, refused};
 use crate::text::put_text;
 use std::alloc::Global;
@@ -117,11 +118,14 @@ impl<'a> HasNumberedRow for AttributeTypeAndValue<'a> {
     }
 }
 
-impl<'a> HasItems<AttributeTypeAndValue<'a>> for RelativeDistinguishedName<'a> {
-    ghost own = { λ r. r.set };
+/// The attributes of relative names.
+struct NameAttributes;
 
-    fn items(&self) -> &[AttributeTypeAndValue<'a>] {
-        self.attributes()
+impl<'a> ItemsOf<RelativeDistinguishedName<'a>, AttributeTypeAndValue<'a>> for NameAttributes {
+    ghost own = { relative_name_of };
+
+    fn items<'v>(member: &'v RelativeDistinguishedName<'a>) -> &'v [AttributeTypeAndValue<'a>] {
+        member.attributes()
     }
 }
 
@@ -136,19 +140,15 @@ pub extern "C" fn rtv_read_name<'a>(
     at: &mut usize,
 ) -> u32
     ensures { Tells name der.now
-        (λ n _. Done (ShowsName attributes.new count.new n))
+        (λ n _. Done (CountsAndShows IsAttributeRow attributes.new count.new (numbered_from 0 n.relative)))
         ((attributes.new ≡ attributes.old) × (count.new ≡ count.old))
         at.old at.new result }
 {
     match X509Name::from_der_located(alloc, der) {
-        Ok((_, read)) => match count_items(read.relative_names()) {
-            Some(counted) => {
-                put_items(attributes, read.relative_names());
-                *count = counted;
-                OK
-            }
-            None => OUT_OF_MEMORY,
-        },
+        Ok((_, read)) => {
+            let relative = read.relative_names();
+            tell_items::<AttributeTypeAndValue<'a>, _, NameAttributes>(attributes, count, relative)
+        }
         Err(refusal) => refused(refusal, at),
     }
 }
