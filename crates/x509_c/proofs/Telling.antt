@@ -1,6 +1,5 @@
 -- What a call tells of what a reader with places answers.
-use Rattle.std.proofs.Common.{◌≡◌, ℕ, ◌+◌, ◌==◌, ◌||◌, Bool, true, false, List, length, map, Ok, Err, refl, sym, ap, subst, inl, inr, cond, ◌⊎◌, ◌∙◌, arith}
-use Rattle.std.proofs.lemmas.Simd.{map-map}
+use Rattle.std.proofs.Common.{◌≡◌, ℕ, ◌+◌, ◌==◌, ◌||◌, Bool, true, false, List, [], ◌∷◌, length, map, Ok, Err, refl, sym, ap, subst, inl, inr, cond, ◌⊎◌, ◌∙◌, arith}
 use Rattle.x509_der.specs.declared.error.BerError.{BerError}
 use Rattle.x509_der.specs.declared.error.BerError.TheVariants as ber
 use Rattle.x509_der.specs.declared.error.ErrorKind.{ErrorKind}
@@ -105,20 +104,27 @@ tells_rows takes_memory view plan buffer Shows items old rows before told_before
     tells_looked takes_memory view plan buffer (λ value _. Done (CountsAndShows Shows rows count (items value))) ((rows ≡ old) × (count ≡ told_before)) x before status reads done (λ other. absurd (other done.0))
 tells_rows takes_memory view plan buffer Shows items old rows before told_before count x status reads (inr two) =
     subst (λ n. Tells plan buffer (λ value _. Done (CountsAndShows Shows rows count (items value))) ((rows ≡ old) × (count ≡ told_before)) before before n) (sym two.0)
-    (tells_memory plan buffer (λ value _. Done (CountsAndShows Shows rows count (items value))) ((rows ≡ old) × (count ≡ told_before)) before two.1)
+    (tells_memory plan buffer (λ value _. Done (CountsAndShows Shows rows count (items value))) ((rows ≡ old) × (count ≡ told_before)) before (two.1, two.2))
+
+-- items in memory, and what they are
+views_of : {M T V Y : Type 0} (view : T → Y) (held : M → List T) (own : V → List Y) (member : M → V) → ((m : M) → map view (held m) ≡ own (member m))
+    → (members : List M) → map (λ m. map view (held m)) members ≡ map own (map member members)
+views_of view held own member same [] = refl
+views_of {Y = Y} view held own member same (m ∷ members) =
+    ap (λ (ys : List Y). ys ∷ map (λ n. map view (held n)) members) (same m) ∙ ap (λ (yss : List (List Y)). own (member m) ∷ yss) (views_of view held own member same members)
 
 -- of the members of a slice, of which all that were read are the views
-pub tells_items : {A X M V R Y : Type 0} (takes_memory : Bool) (view : X → List ℕ × A) (plan : Plan (Refusal X509Error) A) (buffer : List ℕ) (Shows : R → Y → Type 0) (of : A → List V) (own : V → List Y) (member : M → V)
-    (members all : List M) (old rows : List R) (before told_before count : ℕ) (x : X) (status : ℕ)
+pub tells_items : {A X M T V R Y : Type 0} (takes_memory : Bool) (view : X → List ℕ × A) (plan : Plan (Refusal X509Error) A) (buffer : List ℕ) (Shows : R → ℕ × Y → Type 0) (of : A → List V) (own : V → List Y) (member : M → V)
+    (item : T → Y) (held : M → List T) (same : (m : M) → map item (held m) ≡ own (member m)) (members all : List M) (old rows : List R) (before told_before count : ℕ) (x : X) (status : ℕ)
     → ReadsWhere is_x509_memory takes_memory view plan buffer (Ok x) → members ≡ all → of (view x).1 ≡ map member all
-    → AreTold Shows (numbered_from 0 (map (λ m. own (member m)) members)) old told_before rows count status
+    → AreTold Shows (numbered_from 0 (map (λ m. map item (held m)) members)) old told_before rows count status
     → Tells plan buffer (λ value _. Done (CountsAndShows Shows rows count (numbered_from 0 (map own (of value))))) ((rows ≡ old) × (count ≡ told_before)) before before status
-tells_items {A} {X} {M} {V} {R} {Y} takes_memory view plan buffer Shows of own member members all old rows before told_before count x status reads slice is shown =
-    let same : numbered_from 0 (map (λ m. own (member m)) members) ≡ numbered_from 0 (map own (of (view x).1))
-    = ap (λ (ms : List M). numbered_from 0 (map (λ m. own (member m)) ms)) slice
-    ∙ ap (λ (ys : List (List Y)). numbered_from 0 ys) (sym (map-map own member all)) ∙ ap (λ (vs : List V). numbered_from 0 (map own vs)) (sym is) in
+tells_items {A} {X} {M} {T} {V} {R} {Y} takes_memory view plan buffer Shows of own member item held same members all old rows before told_before count x status reads slice is shown =
+    let all_same : numbered_from 0 (map (λ m. map item (held m)) members) ≡ numbered_from 0 (map own (of (view x).1))
+    = ap (λ (ms : List M). numbered_from 0 (map (λ m. map item (held m)) ms)) slice
+    ∙ ap (λ (ys : List (List Y)). numbered_from 0 ys) (views_of item held own member same all) ∙ ap (λ (vs : List V). numbered_from 0 (map own vs)) (sym is) in
     tells_rows takes_memory view plan buffer Shows (λ value. numbered_from 0 (map own (of value))) old rows before told_before count x status reads
-    (subst (λ (ys : List (ℕ × Y)). AreTold Shows ys old told_before rows count status) same shown)
+    (subst (λ (ys : List (ℕ × Y)). AreTold Shows ys old told_before rows count status) all_same shown)
 
 -- ---- refusals
 

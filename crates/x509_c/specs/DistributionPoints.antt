@@ -1,6 +1,9 @@
 -- Distribution points as C sees them.
 use Rattle.std.specs.Prelude.{◌≡◌, ℕ, ◌<◌, ◌≤◌, ◌⊎◌, List, [], length, map, Option, Some, None, slice_index_or}
 use Rattle.x509_general_names.specs.DistributionPointName.{PointName, FullName, NameRelativeToCRLIssuer}
+use Rattle.x509_general_names.specs.declared.distribution_point_name.DistributionPointName.{DistributionPointName}
+use Rattle.x509_general_names.specs.declared.distribution_point_name.DistributionPointName.TheVariants as variants
+use Rattle.x509_general_names.specs.declared.general_name.GeneralName.{GeneralName}
 use Rattle.x509_general_names.specs.DistributionPoints.{Point}
 use Rattle.x509_general_names.specs.GeneralName.{GeneralNameValue}
 use Rattle.x509_c.specs.GeneralNames.{IsGeneralNameRow}
@@ -28,6 +31,12 @@ pub record IsPointRow (row : PointRow) (point : Point) : Type 0 where
   pub has_reasons : row.has_reasons ≡ is_there point.reasons
   pub reasons : row.reasons ≡ there_or 0 point.reasons
   pub has_issuer : row.has_issuer ≡ is_there point.issuer
+
+-- the same of a name in memory
+abbrev pub names_held : Option DistributionPointName → List GeneralName
+names_held None = []
+names_held (Some (variants.FullName names)) = names
+names_held (Some (variants.NameRelativeToCRLIssuer name)) = []
 
 -- a point, and its names and those of the issuer of its list as far as there are rows
 pub record ShowsPoint (point : Point) (row : PointRow) (names issuer : List GeneralNameRow) : Type 0 where

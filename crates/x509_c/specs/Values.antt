@@ -1,5 +1,5 @@
 -- Values of extensions as C sees them.
-use Rattle.std.specs.Prelude.{◌≡◌, ℕ, ◌<◌, ◌≤◌, ◌⊎◌, List, [], length, slice_index_or}
+use Rattle.std.specs.Prelude.{◌≡◌, ℕ, ◌<◌, ◌≤◌, ◌⊎◌, List, [], length, map, slice_index_or}
 use Rattle.x509_values.specs.BasicConstraints.{BasicConstraintsValue}
 use Rattle.x509_values.specs.ExtendedKeyUsage.{Usages}
 use Rattle.x509_values.specs.Policies.{PolicyQualifierValue, PolicyValue}

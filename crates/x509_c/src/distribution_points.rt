@@ -3,7 +3,7 @@
 ghost use Rattle.std.specs.Prelude.{◌≡◌, [], length, map};
 ghost use Rattle.x509_general_names.specs.DistributionPoints.{Point, crl_distribution_points, point_of};
 ghost use Rattle.x509_general_names.specs.GeneralName.{GeneralNameValue, general_name_of};
-ghost use Rattle.x509_c.specs.DistributionPoints.{FindsPoint, IsPointNameRow, IsPointRow, ShowsPoint, full_names, issuers_of_points, name_kind, names_of_points};
+ghost use Rattle.x509_c.specs.DistributionPoints.{FindsPoint, IsPointNameRow, IsPointRow, ShowsPoint, full_names, issuers_of_points, name_kind, names_held, names_of_points};
 ghost use Rattle.x509_c.specs.GeneralNames.{IsGeneralNameRow};
 ghost use Rattle.x509_c.specs.Options.{is_there, there_or};
 ghost use Rattle.x509_c.specs.Rows.{CountsAndShows};
@@ -48,7 +48,8 @@ fn name_kind(point: &CRLDistributionPoint<'_>) -> u32
 }
 
 fn point_names<'v, 'a>(point: &'v CRLDistributionPoint<'a>) -> &'v [GeneralName<'a>]
-    ensures { map general_name_of result.now ≡ full_names (point_of point.now).name }
+    ensures own { result.now ≡ names_held point.now.distribution_point }
+    ensures shown { map general_name_of result.now ≡ full_names (point_of point.now).name }
 {
     match &point.distribution_point {
         Some(DistributionPointName::FullName(names)) => names.as_slice(),
@@ -57,7 +58,8 @@ fn point_names<'v, 'a>(point: &'v CRLDistributionPoint<'a>) -> &'v [GeneralName<
 }
 
 fn issuer_names<'v, 'a>(point: &'v CRLDistributionPoint<'a>) -> &'v [GeneralName<'a>]
-    ensures { map general_name_of result.now ≡ there_or [] (point_of point.now).issuer }
+    ensures own { result.now ≡ there_or [] point.now.crl_issuer }
+    ensures shown { map general_name_of result.now ≡ there_or [] (point_of point.now).issuer }
 {
     match &point.crl_issuer {
         Some(names) => names.as_slice(),
@@ -201,7 +203,7 @@ impl<'a> HasNumberedRow for GeneralName<'a> {
 struct PointNames;
 
 impl<'a> ItemsOf<CRLDistributionPoint<'a>, GeneralName<'a>> for PointNames {
-    ghost own = { λ point. full_names (point_of point).name };
+    ghost own = { λ point. names_held point.distribution_point };
 
     fn items<'v>(member: &'v CRLDistributionPoint<'a>) -> &'v [GeneralName<'a>] {
         point_names(member)
@@ -212,7 +214,7 @@ impl<'a> ItemsOf<CRLDistributionPoint<'a>, GeneralName<'a>> for PointNames {
 struct PointIssuers;
 
 impl<'a> ItemsOf<CRLDistributionPoint<'a>, GeneralName<'a>> for PointIssuers {
-    ghost own = { λ point. there_or [] (point_of point).issuer };
+    ghost own = { λ point. there_or [] point.crl_issuer };
 
     fn items<'v>(member: &'v CRLDistributionPoint<'a>) -> &'v [GeneralName<'a>] {
         issuer_names(member)

@@ -3,7 +3,6 @@
 ghost use Rattle.std.specs.Prelude.{◌≡◌};
 ghost use Rattle.x509_extensions.specs.Extension.{Extension, extension_of};
 ghost use Rattle.x509_lists.specs.CertificateList.{certificate_list};
-ghost use Rattle.x509_lists.specs.RevokedCertificate.{revoked_of};
 ghost use Rattle.x509_c.specs.EntryExtensions.{IsEntryExtensionRow, entry_extensions};
 ghost use Rattle.x509_c.specs.Rows.{CountsAndShows};
 ghost use Rattle.x509_c.specs.Tells.{Tells, Done};
@@ -52,7 +51,7 @@ impl<'a> HasNumberedRow for X509Extension<'a> {
 struct EntryExtensions;
 
 impl<'a> ItemsOf<RevokedCertificate<'a>, X509Extension<'a>> for EntryExtensions {
-    ghost own = { λ r. (revoked_of r).extensions };
+    ghost own = { λ r. r.extensions };
 
     fn items<'v>(member: &'v RevokedCertificate<'a>) -> &'v [X509Extension<'a>] {
         member.extensions()

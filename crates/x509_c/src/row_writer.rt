@@ -53,11 +53,11 @@ pub(crate) trait HasNumberedRow {
 
 /// Which items the members of a list have.
 pub(crate) trait ItemsOf<M, T: HasNumberedRow> {
-    ghost own: { M → List T.Value };
+    ghost own: { M → List T };
 
     /// Those of a member.
     fn items(member: &M) -> &[T]
-        ensures { map T.view result.now ≡ own member.now };
+        ensures { result.now ≡ own member.now };
 }
 
 /// Writes the rows of a member's items behind the rows that are written, as many as have room, and gives how many are written then.
@@ -79,7 +79,7 @@ fn put_numbered<T: HasNumberedRow>(
 
 /// Writes the rows of all members' items, in order, as many as there are rows.
 fn put_items<T: HasNumberedRow, M, S: ItemsOf<M, T>>(rows: &mut [T::Row], members: &[M])
-    ensures { RowsShow T.Shows rows.new (numbered_from 0 (map S.own members.now)) }
+    ensures { RowsShow T.Shows rows.new (numbered_from 0 (map (λ m. map T.view (S.own m)) members.now)) }
 {
     let mut written = 0;
     for i in 0..members.len() {
@@ -89,7 +89,7 @@ fn put_items<T: HasNumberedRow, M, S: ItemsOf<M, T>>(rows: &mut [T::Row], member
 
 /// How many items the members have; none where no number tells it.
 fn count_items<T: HasNumberedRow, M, S: ItemsOf<M, T>>(members: &[M]) -> Option<usize>
-    ensures { IfSome result (λ count. count ≡ length (numbered_from 0 (map S.own members.now))) }
+    ensures { IfSome result (λ count. count ≡ length (numbered_from 0 (map (λ m. map T.view (S.own m)) members.now))) }
 {
     let mut count = 0usize;
     for i in 0..members.len() {
@@ -105,7 +105,7 @@ pub(crate) fn tell_items<T: HasNumberedRow, M, S: ItemsOf<M, T>>(
     count: &mut usize,
     members: &[M],
 ) -> u32
-    ensures { AreTold T.Shows (numbered_from 0 (map S.own members.now)) rows.old count.old rows.new count.new result }
+    ensures { AreTold T.Shows (numbered_from 0 (map (λ m. map T.view (S.own m)) members.now)) rows.old count.old rows.new count.new result }
 {
     match count_items::<T, M, S>(members) {
         Some(counted) => {

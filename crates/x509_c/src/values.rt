@@ -1,6 +1,6 @@
 //! Values of extensions without names in them, each from its own octets.
 
-ghost use Rattle.std.specs.Prelude.{◌≡◌, ℕ, List, length, map};
+ghost use Rattle.std.specs.Prelude.{◌≡◌, ℕ, List, [], length, map};
 ghost use Rattle.x509_der.specs.Oid.{oid_bytes};
 ghost use Rattle.x509_values.specs.BasicConstraints.{basic_constraints, basic_constraints_of};
 ghost use Rattle.x509_values.specs.ExtendedKeyUsage.{extended_key_usage, usages_of};
@@ -9,6 +9,7 @@ ghost use Rattle.x509_values.specs.Policies.{PolicyQualifierValue, PolicyValue, 
 ghost use Rattle.x509_c.specs.Tells.{Tells, Done};
 ghost use Rattle.x509_c.specs.Values.{AreOctets, IsBasicConstraintsRow, IsPolicyRow, IsUsagesRow, ShowsPolicies, ShowsUsages, FindsQualifiers};
 ghost use Rattle.x509_c.specs.Values.{IsPolicyQualifierRow, IsQualifierRow, policy_qualifiers, qualifiers};
+ghost use Rattle.x509_c.specs.Options.{there_or};
 ghost use Rattle.x509_c.specs.Rows.{CountsAndShows};
 
 use crate::octets::OctetsRow;
@@ -181,7 +182,8 @@ pub struct PolicyRow<'a> {
 
 /// The qualifiers of a policy.
 fn qualifiers_of<'v, 'a>(policy: &'v PolicyInformation<'a>) -> &'v [PolicyQualifierInfo<'a>]
-    ensures { map policy_qualifier_of result.now ≡ qualifiers (policy_of policy.now) }
+    ensures own { result.now ≡ there_or [] policy.now.policy_qualifiers }
+    ensures shown { map policy_qualifier_of result.now ≡ qualifiers (policy_of policy.now) }
 {
     match &policy.policy_qualifiers {
         Some(qualifiers) => qualifiers.as_slice(),
@@ -334,7 +336,7 @@ impl<'a> HasNumberedRow for PolicyQualifierInfo<'a> {
 struct PolicyQualifiers;
 
 impl<'a> ItemsOf<PolicyInformation<'a>, PolicyQualifierInfo<'a>> for PolicyQualifiers {
-    ghost own = { λ policy. qualifiers (policy_of policy) };
+    ghost own = { λ policy. there_or [] policy.policy_qualifiers };
 
     fn items<'v>(member: &'v PolicyInformation<'a>) -> &'v [PolicyQualifierInfo<'a>] {
         qualifiers_of(member)

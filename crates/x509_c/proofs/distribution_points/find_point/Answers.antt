@@ -17,8 +17,8 @@ returns c =
     let there : (none : Point) → get_or (map point_of points) k none ≡ point_of point = λ none. get_or-map point_of points k point none within ∙ ap point_of (sym c.index-points-position.is) in
     let own : ShowsPoint (point_of point) c.point_row.result c.put_rows.new.rows c.put_rows-2.new.rows = record {
       fields = c.point_row.ensures;
-      name_rows = subst (λ (xs : List GeneralNameValue). RowsShow IsGeneralNameRow c.put_rows.new.rows xs) c.point_names.ensures c.put_rows.ensures;
-      issuer_rows = subst (λ (xs : List GeneralNameValue). RowsShow IsGeneralNameRow c.put_rows-2.new.rows xs) c.issuer_names.ensures c.put_rows-2.ensures;
+      name_rows = subst (λ (xs : List GeneralNameValue). RowsShow IsGeneralNameRow c.put_rows.new.rows xs) c.point_names.ensures.shown c.put_rows.ensures;
+      issuer_rows = subst (λ (xs : List GeneralNameValue). RowsShow IsGeneralNameRow c.put_rows-2.new.rows xs) c.issuer_names.ensures.shown c.put_rows-2.ensures;
     } in
     record {
       found = inl (refl, omega (arith, within, length-map points point_of), λ none. subst (λ (p : Point). ShowsPoint p c.point_row.result c.put_rows.new.rows c.put_rows-2.new.rows) (sym (there none)) own);

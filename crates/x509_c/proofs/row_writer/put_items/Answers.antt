@@ -8,7 +8,7 @@ use Rattle.x509_c.proofs.row_writer.put_items.Goals as goal
 pub loop-i-preserved : goal.loop-i-preserved
 loop-i-preserved g c =
     let i = c.loop-i.i in
-    let own : g.row.M.Denot → List g.T.HasNumberedRow.Value = g.S.ItemsOf.own in
+    let own : g.row.M.Denot → List g.T.HasNumberedRow.Value = λ m. map g.T.HasNumberedRow.view (g.S.ItemsOf.own m) in
     let members = c.args.members.now in
     let done = numbered_from 0 (take i (map own members)) in
     let member = c.index-members-i.result in
@@ -17,7 +17,7 @@ loop-i-preserved g c =
     let rows = c.put_numbered-written.new.rows in
     let same : length rows ≡ length c.loop-i.rows = search rules in
     let continues : ContinuesRows g.T.HasNumberedRow.Shows c.loop-i.written c.loop-i.rows written rows more
-    = subst (λ (xs : List g.T.HasNumberedRow.Value). ContinuesRows g.T.HasNumberedRow.Shows c.loop-i.written c.loop-i.rows written rows (numbered i xs)) c.items.ensures c.put_numbered-written.ensures in
+    = subst (λ xs. ContinuesRows g.T.HasNumberedRow.Shows c.loop-i.written c.loop-i.rows written rows (numbered i (map g.T.HasNumberedRow.view xs))) c.items.ensures c.put_numbered-written.ensures in
     let grown : numbered_from 0 (take (i + 1) (map own members)) ≡ done ++ more = one_member_more own members i member c.loop-i-test.true c.index-members-i.is in
     record {
       count = count_continued g.T.HasNumberedRow.Shows c.loop-i.written written c.loop-i.rows rows done more same c.loop-i.invariant.count continues ∙ ap (λ (xs : List (ℕ × g.T.HasNumberedRow.Value)). min (length rows) (length xs)) (sym grown);

@@ -13,7 +13,7 @@ returns c =
     let policy = c.index-policies-position.result in
     let within : k < length policies = omega (arith, c.if-position-policies.false) in
     let there : (none : PolicyValue) → qualifiers (get_or (map policy_of policies) k none) ≡ map policy_qualifier_of c.qualifiers_of-qualifiers.result.now
-    = λ none. ap qualifiers (get_or-map policy_of policies k policy none within ∙ ap policy_of (sym c.index-policies-position.is)) ∙ sym c.qualifiers_of-qualifiers.ensures in
+    = λ none. ap qualifiers (get_or-map policy_of policies k policy none within ∙ ap policy_of (sym c.index-policies-position.is)) ∙ sym c.qualifiers_of-qualifiers.ensures.shown in
     let shown : ShowsQualifiers (map policy_of policies) k c.put_rows.new.rows (length c.qualifiers_of-qualifiers.result.now) = record {
       within = omega (arith, within, length-map policies policy_of);
       count = λ none. sym (length-map c.qualifiers_of-qualifiers.result.now policy_qualifier_of) ∙ ap (λ (xs : List PolicyQualifierValue). length xs) (sym (there none));
