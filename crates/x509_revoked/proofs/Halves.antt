@@ -1,11 +1,9 @@
 -- Searching by halves.
-use Rattle.std.proofs.Common.{◌≡◌, ℕ, zero, suc, ◌<◌, ◌≤◌, ◌+◌, ◌/◌, ◌^◌, List, [], ◌∷◌, length, map, get_or, Some, None, refl, sym, ap, subst, arith}
+use Rattle.std.proofs.Common.{◌≡◌, ℕ, zero, suc, ◌<◌, ◌≤◌, ◌+◌, ◌/◌, ◌^◌, List, [], ◌∷◌, length, Some, None, refl, subst, arith}
 use Rattle.std.specs.Int.Digits.{digits_of}
 use Rattle.std.proofs.lemmas.Int.Digits.{length-digits_of_step, length-digits_of-le, number_lt, number_digits_of, all_below_base_digits_of}
 use Rattle.std.proofs.lemmas.Bool.Decides.{nat_tests}
-use Rattle.x509_der.specs.Unsigned.{unsigned_number}
-use Rattle.x509_revoked.specs.declared.entry.Entry.{Entry}
-use Rattle.x509_revoked.specs.Entries.{Indexed, indexed, position_in, number_at, AreInOrder}
+use Rattle.x509_revoked.specs.Entries.{Indexed, position_in, number_at, position_at, AreInOrder}
 use Rattle.x509_revoked.specs.Index.{binary_digits}
 
 -- ---- binary digits
@@ -33,9 +31,6 @@ not_less_from xs order n k not_less j le lt = omega (arith, order k j le lt, not
 
 -- ---- what is found
 
-abbrev pub position_at : List Indexed → ℕ → ℕ
-position_at xs k = let x = get_or xs k (record { number = 0; position = 0 }) in x.position
-
 -- a number that none has is found nowhere
 pub found_nowhere : (xs : List Indexed) (n : ℕ) → ((j : ℕ) → j < length xs → number_at xs j ≡ n → ⊥) → position_in xs n ≡ None
 found_nowhere [] n none = refl
@@ -47,15 +42,3 @@ found_first [] n k within is less = absurd (omega (arith, within))
 found_first (x ∷ xs) n zero within is less = grind (arith, nat_tests, is)
 found_first (x ∷ xs) n (suc k) within is less =
     grind (arith, nat_tests, less 0 (omega arith), found_first xs n k (omega (arith, within)) is (λ j lt. less (suc j) (omega (arith, lt))))
-
--- ---- entries
-
-pub number_here : (es : List Entry) (k : ℕ) (e : Entry) → k < length es → e ≡ get_or es k e → number_at (map indexed es) k ≡ unsigned_number e.serial
-number_here [] k e within is = absurd (omega (arith, within))
-number_here (x ∷ es) zero e within is = ap (λ (y : Entry). unsigned_number y.serial) (sym is)
-number_here (x ∷ es) (suc k) e within is = number_here es k e (omega (arith, within)) is
-
-pub position_here : (es : List Entry) (k : ℕ) (e : Entry) → k < length es → e ≡ get_or es k e → position_at (map indexed es) k ≡ e.position
-position_here [] k e within is = absurd (omega (arith, within))
-position_here (x ∷ es) zero e within is = ap (λ (y : Entry). y.position) (sym is)
-position_here (x ∷ es) (suc k) e within is = position_here es k e (omega (arith, within)) is

@@ -107,3 +107,8 @@ position_is_least (x ∷ xs) n ties = position_test x xs n ties.0 (position_is_l
 pub answers_first : (xs : List Indexed) (ns : List ℕ) → IsPermutation (indexed_from 0 ns) xs → AreTiesInOrder xs → (n : ℕ) → position_in xs n ≡ first_of ns n
 answers_first xs ns same ties n =
     least_only xs n (position_in xs n) (first_of ns n) (position_is_least xs n ties) (least_moved (indexed_from 0 ns) xs n (first_of ns n) same (first_is_least ns n))
+
+-- two lists of the same entries, each with those of one number in order of their positions, answer alike
+pub same_answers : (xs ys : List Indexed) → IsPermutation ys xs → AreTiesInOrder xs → AreTiesInOrder ys → (n : ℕ) → position_in xs n ≡ position_in ys n
+same_answers xs ys same ties_x ties_y n =
+    least_only xs n (position_in xs n) (position_in ys n) (position_is_least xs n ties_x) (least_moved ys xs n (position_in ys n) same (position_is_least ys n ties_y))

@@ -1,12 +1,11 @@
 -- What sorting gives: each entry ranks before those behind it, by its number and then by its position.
-use Rattle.std.proofs.Common.{◌≡◌, ℕ, zero, suc, ◌<◌, ◌≤◌, ◌+◌, Bool, false, List, [], ◌∷◌, length, map, get_or, subst, arith, is_lt, nat_cmp}
+use Rattle.std.proofs.Common.{◌≡◌, ℕ, zero, suc, ◌<◌, ◌≤◌, ◌+◌, false, List, [], ◌∷◌, length, map, get_or, subst, arith, is_lt, nat_cmp}
 use Rattle.std.specs.List.{All}
 use Rattle.std.specs.Ordering.{ordering_then}
+use Rattle.std.specs.declared.cmp.Ordering.{Ordering}
 use Rattle.std.proofs.lemmas.Bool.Decides.{nat_tests}
 use Rattle.std.proofs.lemmas.List.Elements.{All-nil, All-cons, All-weaker}
-use Rattle.x509_der.specs.Unsigned.{unsigned_number}
-use Rattle.x509_revoked.specs.declared.entry.Entry.{Entry}
-use Rattle.x509_revoked.specs.Entries.{Indexed, indexed, AreInOrder}
+use Rattle.x509_revoked.specs.Entries.{Indexed, AreInOrder}
 use Rattle.x509_revoked.proofs.Least.{IsBehind, AreTiesInOrder}
 
 pub record IsBefore (x y : Indexed) : Type 0 where
@@ -29,24 +28,22 @@ abbrev pub AreRanked : List Indexed → Type 0
 AreRanked [] = Unit {0}
 AreRanked (x ∷ xs) = All (IsBefore x) xs × AreRanked xs
 
--- no entry is less than the one before it
-abbrev pub Falls : List Entry → ℕ → ℕ → Entry → Bool
-Falls es k j d = is_lt (ordering_then (nat_cmp (unsigned_number (get_or es j d).serial) (unsigned_number (get_or es k d).serial)) (nat_cmp (get_or es j d).position (get_or es k d).position))
+-- by the number, and then by the position
+abbrev pub compared : Indexed → Indexed → Ordering
+compared x y = ordering_then (nat_cmp x.number y.number) (nat_cmp x.position y.position)
 
-abbrev NoneFalls : List Entry → Type 0
-NoneFalls es = (k : ℕ) (d : Entry) → suc k < length es → Falls es k (suc k) d ≡ false
+-- what stands in a list for an entry each, of which none is less than the one before it
+ranked_of : {X : Type 0} (f : X → Indexed) (xs : List X) → ((k : ℕ) (d : X) → suc k < length xs → is_lt (compared (f (get_or xs (suc k) d)) (f (get_or xs k d))) ≡ false) → AreRanked (map f xs)
+ranked_of f [] h = tt
+ranked_of f (x ∷ []) h = (All-nil (IsBefore (f x)), tt)
+ranked_of f (x ∷ y ∷ xs) h =
+    let rest = ranked_of f (y ∷ xs) (λ k d lt. h (suc k) d (omega (arith, lt))) in
+    let first : IsBefore (f x) (f y) = before_of (f x).number (f y).number (f x).position (f y).position (h 0 x (omega arith)) in
+    (All-cons (IsBefore (f x)) (f y) (map f xs) first (All-weaker (IsBefore (f y)) (IsBefore (f x)) (λ z. before_both (f x) (f y) z first) (map f xs) rest.0), rest)
 
-ranked_of : (es : List Entry) → NoneFalls es → AreRanked (map indexed es)
-ranked_of [] h = tt
-ranked_of (x ∷ []) h = (All-nil (IsBefore (indexed x)), tt)
-ranked_of (x ∷ y ∷ es) h =
-    let rest = ranked_of (y ∷ es) (λ k d lt. h (suc k) d (omega (arith, lt))) in
-    let first : IsBefore (indexed x) (indexed y) = before_of (unsigned_number x.serial) (unsigned_number y.serial) x.position y.position (h 0 x (omega arith)) in
-    (All-cons (IsBefore (indexed x)) (indexed y) (map indexed es) first (All-weaker (IsBefore (indexed y)) (IsBefore (indexed x)) (λ z. before_both (indexed x) (indexed y) z first) (map indexed es) rest.0), rest)
-
-pub ranked_sorted : (es : List Entry) → ((k : ℕ) (d : Entry) → 0 ≤ k → k + 1 < length es → Falls es k (k + 1) d ≡ false) → AreRanked (map indexed es)
-ranked_sorted es sorted =
-    ranked_of es (λ k d lt. subst (λ j. Falls es k j d ≡ false) {x = k + 1} {y = suc k} (omega arith) (sorted k d (omega arith) (omega (arith, lt))))
+pub ranked_sorted : {X : Type 0} (f : X → Indexed) (xs : List X) → ((k : ℕ) (d : X) → 0 ≤ k → k + 1 < length xs → is_lt (compared (f (get_or xs (k + 1) d)) (f (get_or xs k d))) ≡ false) → AreRanked (map f xs)
+ranked_sorted f xs sorted =
+    ranked_of f xs (λ k d lt. subst (λ j. is_lt (compared (f (get_or xs j d)) (f (get_or xs k d))) ≡ false) {x = k + 1} {y = suc k} (omega arith) (sorted k d (omega arith) (omega (arith, lt))))
 
 pub ties_of : (xs : List Indexed) → AreRanked xs → AreTiesInOrder xs
 ties_of [] h = tt

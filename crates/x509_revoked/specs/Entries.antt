@@ -3,7 +3,7 @@ use Rattle.std.specs.Prelude.{ℕ, ◌<◌, ◌≤◌, ◌+◌, List, [], ◌∷
 use Rattle.x509_der.specs.Unsigned.{unsigned_number}
 use Rattle.x509_revoked.specs.declared.entry.Entry.{Entry}
 
--- a serial as a number, and the position of its entry on the list
+-- a serial as a number, and where its entry stands: its position on the list, or the offset at which it begins
 pub record Indexed : Type 0 where
   pub number : ℕ
   pub position : ℕ
@@ -23,6 +23,9 @@ position_in (x ∷ xs) number = cond (x.number == number) (Some x.position) (pos
 
 abbrev pub number_at : List Indexed → ℕ → ℕ
 number_at xs k = let x = slice_index_or xs k (record { number = 0; position = 0 }) in x.number
+
+abbrev pub position_at : List Indexed → ℕ → ℕ
+position_at xs k = let x = slice_index_or xs k (record { number = 0; position = 0 }) in x.position
 
 -- the numbers don't fall
 abbrev pub AreInOrder : List Indexed → Type 0

@@ -8,7 +8,9 @@ ghost use Rattle.x509_lists.specs.TbsCertList.{tbs_list_of};
 ghost use Rattle.x509_revoked.specs.Entries.{indexed, AreInOrder};
 
 use crate::entry::Entry;
+use crate::ordered::Ordered;
 use crate::search::search;
+use std::cmp::Ordering;
 use x509_der::UnsignedBytes;
 use x509_fields::X509Error;
 use x509_lists::TbsCertList;
@@ -80,6 +82,22 @@ impl<'a> RevocationIndex<'a> {
         ensures least { 0 < size self.now → 0 < result.1 }
         ensures most { result.1 ≤ binary_digits (size self.now) + 1 }
     {
-        search(&self.entries, serial)
+        search(self, serial)
+    }
+}
+
+impl Ordered for RevocationIndex<'_> {
+    ghost indexed = { λ index. map indexed index.entries.items };
+
+    fn count(&self) -> usize {
+        self.entries.len()
+    }
+
+    fn compare(&self, entry: usize, serial: &UnsignedBytes<'_>, compared: &mut u32) -> Ordering {
+        self.entries[entry].compare(serial, compared)
+    }
+
+    fn place(&self, entry: usize) -> usize {
+        self.entries[entry].position()
     }
 }

@@ -2,8 +2,16 @@
 //! x509_lists.
 #![tactic(auto)]
 
+mod beginnings;
+mod entries_index;
 mod entry;
 mod index;
+mod index_error;
+mod index_file;
+mod ordered;
 mod search;
+mod serial_order;
 
+pub use entries_index::EntriesIndex;
 pub use index::RevocationIndex;
+pub use index_error::IndexError;
