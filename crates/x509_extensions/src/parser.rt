@@ -15,7 +15,7 @@ ghost use Rattle.x509_extensions.specs.Parsed.{parsed_of};
 use crate::extension::X509Extension;
 use crate::parsed::{ParsedExtension, parse_value};
 use std::alloc::Global;
-use x509_der::{Err, Fields, Oid, Outside, Place, Reader, Refused, Sequence, Tries, named};
+use x509_der::{Err, Fields, Oid, Outside, Place, Reader, Refused, Sequence, Tries, named, ok};
 use x509_fields::{X509Error, sequence_at};
 
 /// Reads extensions, with or without what their values say.
@@ -78,11 +78,16 @@ impl X509ExtensionParser {
             Err(e) => return Err(e.why),
         };
         if self.deep_parse_extensions {
-            let (value, value_plain) = parse_value(alloc, tries, &envelope.oid, envelope.value)?;
-            put(list, envelope.with_value(value))?;
+            let (value, value_plain) = ok!(parse_value(
+                alloc,
+                tries,
+                &envelope.oid,
+                envelope.value
+            ));
+            ok!(put(list, envelope.with_value(value)));
             return Ok(value_plain & envelope_plain);
         }
-        put(list, envelope.with_value(ParsedExtension::Unparsed))?;
+        ok!(put(list, envelope.with_value(ParsedExtension::Unparsed)));
         Ok(envelope_plain)
     }
 }
