@@ -151,11 +151,11 @@ impl<'a> Reader<'a, X509Error, X509Certificate<'a>> for X509CertificateParser {
         place: &Place<'a, L>,
     ) -> Result<(X509Certificate<'a>, bool), Refused<X509Error, L>> {
         match self.loosely_at(alloc, tries, place) {
-            Ok((value, plain)) => {
-                if self.strict && !plain {
+            Ok(read) => {
+                if self.strict && !read.1 {
                     return Err(place.refuse(Err::Error(X509Error::Generic)));
                 }
-                Ok((value, plain))
+                Ok(read)
             }
             Err(e) => Err(e),
         }

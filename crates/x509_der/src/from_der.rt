@@ -91,9 +91,11 @@ pub trait FromDer<'a, E: ReadError>: Sized {
         ensures tries { TriesBounded form own_tag heads (λ x. (x.0.now, view x.1)) i.now tries.old tries.new result }
         ensures tight { tight i.now (tried tries.old i.now) tries.new }
     {
-        match Self::read_marked(alloc, tries, i) {
-            Ok((rest, value, _)) => Ok((rest, value)),
-            Err(e) => Err(e),
+        // not by `read_marked`: each layer that a value passes through is a copy of it
+        let front = Place::look(tries, i);
+        match Self::read_at(alloc, tries, &front) {
+            Ok((value, _)) => Ok((front.rest(), value)),
+            Err(e) => Err(e.why),
         }
     }
 

@@ -123,9 +123,11 @@ pub trait Reader<'a, E: ReadError, X>: Sized {
         ensures tight { tight i.now (tried tries.old i.now) tries.new }
         ensures shallow { is_deep self.now ≡ false → IfOk result (λ x. tries.new + 8 + 8 * unread (view x.1) + 8 * length x.0.now ≤ tries.old + 8 * length i.now) }
     {
-        match self.read_marked(alloc, tries, i) {
-            Ok((rest, value, _)) => Ok((rest, value)),
-            Err(e) => Err(e),
+        // not by `read_marked`: each layer that a value passes through is a copy of it
+        let front = Place::look(tries, i);
+        match self.read_at(alloc, tries, &front) {
+            Ok((value, _)) => Ok((front.rest(), value)),
+            Err(e) => Err(e.why),
         }
     }
 

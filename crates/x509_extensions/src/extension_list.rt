@@ -15,9 +15,7 @@ ghost use Rattle.x509_der.specs.Looks.{behind};
 use crate::extension::X509Extension;
 use crate::parser::X509ExtensionParser;
 use std::alloc::Global;
-use x509_der::{
-    Class, Err, ErrorKind, Header, Outside, Place, Reader, Refused, Sequence, Tries, Window,
-};
+use x509_der::{Class, Err, ErrorKind, Header, Outside, Place, Refused, Sequence, Tries, Window};
 use x509_fields::{X509Error, sequence_at};
 
 impl X509ExtensionParser {
@@ -147,13 +145,11 @@ impl X509ExtensionParser {
         let mut rest = i;
         let mut plain = true;
         while !rest.is_empty() {
-            match self.read_marked(alloc, tries, rest) {
-                Ok((after, extension, marked)) => {
-                    if list.push(extension).is_err() {
-                        return Err(contents.refuse_at(rest, Err::out_of_memory()));
-                    }
+            let place = Place::look(tries, rest);
+            match self.add_at(alloc, tries, &place, &mut list) {
+                Ok(marked) => {
                     plain &= marked;
-                    rest = after;
+                    rest = place.rest();
                 }
                 Err(e) => {
                     if e.is_out_of_memory() {

@@ -1,18 +1,21 @@
 //! Readers of extensions, which look at the values or leave them alone.
 
-ghost use Rattle.std.specs.Prelude.{◌≡◌, ◌≤◌, ◌+◌, ◌-◌, ◌*◌, ⊤, true, IfOk, IsErr, length};
+ghost use Rattle.std.specs.Prelude.{◌≡◌, ◌≤◌, ◌+◌, ◌-◌, ◌*◌, ◌++◌, ◌∷◌, ⊤, [], true, cond, Err as Refusing, IfOk, IfErr, IsErr, map, length};
 ghost use Rattle.x509_der.specs.Looks.{behind, is_element};
 ghost use Rattle.x509_der.specs.Place.{at, outside_of};
 ghost use Rattle.x509_der.specs.Primitives.{is_constructed};
-ghost use Rattle.x509_der.specs.Promises.{OneTryEach, IsForeign, GivesAt};
+ghost use Rattle.x509_der.specs.Promises.{OneTryEach, IsForeign, GivesAt, is_excused};
 ghost use Rattle.x509_der.specs.Leaves.{sequence as leaf_sequence};
 ghost use Rattle.x509_der.specs.Reading.{AddsAtLeast, strict};
-ghost use Rattle.x509_extensions.specs.Extension.{Extension, extension_of, extension_heads, extension_laws, envelope_of, envelope_fields, envelope, extension};
+ghost use Rattle.x509_fields.specs.Errors.{is_x509_memory};
+ghost use Rattle.x509_extensions.specs.Adding.{Adds};
+ghost use Rattle.x509_extensions.specs.Extension.{Extension, extension_of, extension_heads, extension_laws, envelope_of, envelope_fields, envelope, extension, with_parsed};
+ghost use Rattle.x509_extensions.specs.Parsed.{parsed_of};
 
 use crate::extension::X509Extension;
 use crate::parsed::{ParsedExtension, parse_value};
 use std::alloc::Global;
-use x509_der::{Fields, Oid, Outside, Place, Reader, Refused, Tries, named};
+use x509_der::{Err, Fields, Oid, Outside, Place, Reader, Refused, Sequence, Tries, named, ok};
 use x509_fields::{X509Error, sequence_at};
 
 /// Reads extensions, with or without what their values say.
@@ -53,6 +56,40 @@ impl X509ExtensionParser {
             deep_parse_extensions,
         }
     }
+
+    // Puts the extension at a place that was looked at behind those of the list, and tells whether it stands plainly. One whose value is
+    // looked at and one whose value isn't are put there each by a call of its own, so that no value is moved that may be either.
+    #[inline(always)]
+    #[tactic(auto, unfolding(crate::specs::Extension::extension))]
+    pub(crate) fn add_at<'a, L: Outside>(
+        &self,
+        alloc: Global,
+        tries: &mut Tries,
+        place: &Place<'a, L>,
+        list: &mut Sequence<X509Extension<'a>>,
+    ) -> Result<bool, Err<X509Error>>
+        ensures added { IfOk result (λ plain. Adds self.now.deep_parse_extensions (at place.now) (map extension_of list.old) (map extension_of list.new) plain tries.old tries.new) }
+        ensures refused { IfErr result (λ e. cond (is_excused is_x509_memory true e) ⊤ ((extension self.now.deep_parse_extensions).read (at place.now) ≡ Refusing e)) }
+        ensures grows { tries.old ≤ tries.new }
+        ensures few { tries.new ≤ tries.old + (8 * length (at place.now) - 8) }
+    {
+        let (envelope, envelope_plain) = match read_envelope(tries, place) {
+            Ok(read) => read,
+            Err(e) => return Err(e.why),
+        };
+        if self.deep_parse_extensions {
+            let (value, value_plain) = ok!(parse_value(
+                alloc,
+                tries,
+                &envelope.oid,
+                envelope.value
+            ));
+            ok!(put(list, envelope.with_value(value)));
+            return Ok(value_plain & envelope_plain);
+        }
+        ok!(put(list, envelope.with_value(ParsedExtension::Unparsed)));
+        Ok(envelope_plain)
+    }
 }
 
 /// Reads an extension, `Error(InvalidExtensions)` where none stands; a shallow reader tries no header inside its value.
@@ -92,28 +129,19 @@ impl<'a> Reader<'a, X509Error, X509Extension<'a>> for X509ExtensionParser {
         place: &Place<'a, L>,
     ) -> Result<(X509Extension<'a>, bool), Refused<X509Error, L>> {
         let (envelope, envelope_plain) = read_envelope(tries, place)?;
-        let Envelope {
-            oid,
-            critical,
-            value,
-        } = envelope;
         if !self.deep_parse_extensions {
-            let extension = X509Extension {
-                oid,
-                critical,
-                value,
-                parsed_extension: ParsedExtension::Unparsed,
-            };
-            return Ok((extension, envelope_plain));
+            return Ok((
+                envelope.with_value(ParsedExtension::Unparsed),
+                envelope_plain,
+            ));
         }
-        let (parsed_extension, value_plain) = place.judge(parse_value(alloc, tries, &oid, value))?;
-        let extension = X509Extension {
-            oid,
-            critical,
-            value,
-            parsed_extension,
-        };
-        Ok((extension, value_plain & envelope_plain))
+        let (value, value_plain) = place.judge(parse_value(
+            alloc,
+            tries,
+            &envelope.oid,
+            envelope.value,
+        ))?;
+        Ok((envelope.with_value(value), value_plain & envelope_plain))
     }
 
     ghost never_memory = { λ p. (extension_laws p.deep_parse_extensions).laws.never_memory };
@@ -125,6 +153,21 @@ pub(crate) struct Envelope<'a> {
     oid: Oid<'a>,
     critical: bool,
     value: &'a [u8],
+}
+
+impl<'a> Envelope<'a> {
+    // The extension whose value says this.
+    #[inline(always)]
+    fn with_value(self, parsed_extension: ParsedExtension<'a>) -> X509Extension<'a>
+        ensures { extension_of result ≡ with_parsed (envelope_of self.entry) (parsed_of parsed_extension.entry) }
+    {
+        X509Extension {
+            oid: self.oid,
+            critical: self.critical,
+            value: self.value,
+            parsed_extension,
+        }
+    }
 }
 
 // The three fields of an extension, with the refusals of each.
@@ -178,4 +221,19 @@ fn read_envelope<'a, L: Outside>(
         read_envelope_fields(tries, place),
         X509Error::InvalidExtensions
     ))
+}
+
+// One more extension at the end of the list; the refusal is want of memory.
+#[inline(always)]
+fn put<'a>(
+    list: &mut Sequence<X509Extension<'a>>,
+    extension: X509Extension<'a>,
+) -> Result<(), Err<X509Error>>
+    ensures put { IfOk result (λ _. map extension_of list.new ≡ map extension_of list.old ++ extension_of extension.entry ∷ []) }
+    ensures refused { IfErr result (λ e. is_excused is_x509_memory true e ≡ true) }
+{
+    if list.push(extension).is_err() {
+        return Err(Err::out_of_memory());
+    }
+    Ok(())
 }

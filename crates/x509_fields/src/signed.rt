@@ -49,10 +49,11 @@ pub fn read_signed<'a, T: Drop, R: Reader<'a, X509Error, T>, L: Outside>(
     ensures shallow { R.is_deep part.now ≡ false → IfOk result (λ x. tries.new + 9 + 8 * R.unread (R.view x.0.tbs) + 8 * length (behind (at place.now)) ≤ tries.old + 8 * length (at place.now)) }
 {
     let contents = sequence_at(place)?;
-    let fields = Fields::of(tries, &contents);
-    let (fields, tbs) = ok!(fields.field_by(part, alloc, tries));
+    let first = Fields::of(tries, &contents);
+    let (tbs, tbs_plain) = ok!(part.read_at(alloc, tries, &first.place));
+    let fields = first.behind(tries, tbs_plain);
     let (fields, signature_algorithm) = fields.field(alloc, tries)?;
-    let signature_value = signature_value_at(&fields.place)?;
+    let signature_value = ok!(signature_value_at(&fields.place));
     let bytes = place.bytes();
     let signed = Signed {
         tbs,
