@@ -1,3 +1,4 @@
 pub mod Fields
 pub mod Parts
 pub mod Paths
+pub mod Cursors

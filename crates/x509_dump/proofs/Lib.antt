@@ -1,0 +1,4 @@
+pub mod Elements
+pub mod Fronts
+pub mod Shown
+pub mod Walking

@@ -1,0 +1,33 @@
+-- What is shown of texts.
+use Rattle.std.proofs.Common.{◌≡◌, ℕ, Bool, true, false, cond, List, ◌++◌, Some, None, Result, Ok, Err, OnOk, refl, sym, ap, ◌∙◌, append_assoc}
+use Rattle.std.specs.Str.{IsUtf8, is_utf8}
+use Rattle.std.proofs.lemmas.Str.{IsUtf8-from_is_utf8, is_utf8-from_IsUtf8}
+use Rattle.x509_report_lines.proofs.Shown.{escaped_shown}
+
+pub is_text : (octets : List ℕ) → IsUtf8 octets → Some octets ≡ cond (is_utf8 octets) (Some octets) None
+is_text octets h = sym (ap (λ b. cond b (Some octets) None) (is_utf8-from_IsUtf8 octets h))
+
+pub no_text : (octets : List ℕ) → (IsUtf8 octets → ⊥) → None ≡ cond (is_utf8 octets) (Some octets) None
+no_text octets h = go (is_utf8 octets) (λ e. h (IsUtf8-from_is_utf8 octets e))
+  where
+    go : (b : Bool) → (b ≡ true → ⊥) → None ≡ cond b (Some octets) None
+    go true n = absurd (n refl)
+    go false n = refl
+
+-- ---- one text behind another
+
+pub both : (old mid new a b : List ℕ) → mid ≡ old ++ a → new ≡ mid ++ b → new ≡ old ++ (a ++ b)
+both old mid new a b e f = f ∙ ap (λ (t : List ℕ). t ++ b) e ∙ append_assoc old a b
+
+pub both_as : (old mid new a b c : List ℕ) → mid ≡ old ++ a → new ≡ mid ++ b → b ≡ c → new ≡ old ++ (a ++ c)
+both_as old mid new a b c e f is = both old mid new a b e f ∙ ap (λ (t : List ℕ). old ++ (a ++ t)) is
+
+pub last : {A E : Type 0} (r : Result A E) (old mid new a b : List ℕ) → mid ≡ old ++ a → OnOk r (new ≡ mid ++ b) → OnOk r (new ≡ old ++ (a ++ b))
+last (Ok x) old mid new a b e f = both old mid new a b e f
+last (Err x) old mid new a b e f = f
+
+pub last_as : {A E : Type 0} (r : Result A E) (old mid new a b c : List ℕ) → mid ≡ old ++ a → OnOk r (new ≡ mid ++ b) → b ≡ c → OnOk r (new ≡ old ++ (a ++ c))
+last_as (Ok x) old mid new a b c e f is = both_as old mid new a b c e f is
+last_as (Err x) old mid new a b c e f is = f
+
+pub ruleset texts = (is_text, no_text, escaped_shown)

@@ -1,0 +1,15 @@
+//! The elements of an object, a line each: what stands at which octet, how deep, and what the standards call it. It may use x509_der and
+//! x509_paths, and knows no structure but by the names of its fields.
+#![tactic(auto)]
+
+mod front;
+mod line;
+mod lines;
+mod open;
+mod text;
+mod walk;
+
+pub use line::{DumpLine, What};
+pub use lines::DumpLines;
+pub use text::push_line;
+pub use walk::dump;
