@@ -40,6 +40,18 @@ pub stops_by : {A : Type 0} (r : Result A Stop) (e : Stop) (old new : Option (Li
 stops_by (Ok x) e old new lines p f = absurd p
 stops_by (Err x) e old new lines p f = λ h. f (sym p ∙ h)
 
+-- ---- two parts, the first of which may stop
+
+pub tells_behind : {A : Type 0} (r : Result A Stop) (a b c : Option (List ℕ)) (xs ys : List (List ℕ)) → Appends a b (text xs) → Tells r b c ys → Tells r a c (xs ++ ys)
+tells_behind (Ok x) a b c xs ys p q = behind a b c xs ys p q
+tells_behind (Err e) a b c xs ys p q = λ h. front_behind a b c xs ys [] (xs ++ ys) (ap (λ ls. xs ++ ls) (sym (append-nil ys))) p (q h)
+
+pub stops_first : {A : Type 0} (r : Result A Stop) (e : Stop) (a c : Option (List ℕ)) (xs ys : List (List ℕ)) → IsErrAnd r (λ x. x ≡ e) → (e ≡ stops.Memory → WritesFront a c xs) → Tells r a c (xs ++ ys)
+stops_first r e a c xs ys p f = stops_by r e a c (xs ++ ys) p (λ h. front_behind a a c [] xs ys (xs ++ ys) refl (Appends-nil a) (f h))
+
+pub stops_between : {A : Type 0} (r : Result A Stop) (e : Stop) (a b : Option (List ℕ)) (xs ys : List (List ℕ)) → IsErrAnd r (λ x. x ≡ e) → Appends a b (text xs) → Tells r a b (xs ++ ys)
+stops_between r e a b xs ys p q = stops_by r e a b (xs ++ ys) p (λ h. front_behind a b b xs ys [] (xs ++ ys) (ap (λ ls. xs ++ ls) (sym (append-nil ys))) q (unwritten b ys))
+
 -- ---- a walk over parts, of which some are told, and the others are left
 
 pub record Leads (old now : Option (List ℕ)) (left whole : List (List ℕ)) : Type 0 where

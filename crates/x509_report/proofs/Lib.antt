@@ -1,3 +1,4 @@
 pub mod Leads
 pub mod Labels
 pub mod Choices
+pub mod ElementLines

@@ -70,7 +70,7 @@ whole_told a form p b =
     else failed a form p b.symbols (codes "pem") (codes "no END line")
 
 abbrev pub kind_told : Asks → Form → Found → Pem → Option Kind → Told
-kind_told a form p b (Some kind) = whole_told (record { wishes = only a.wishes kind; entries = a.entries }) form p b
+kind_told a form p b (Some kind) = whole_told (record { wishes = only a.wishes kind; entries = a.entries; dump = a.dump }) form p b
 kind_told a form p b None = skipped a form p b.symbols
 
 unfoldable pub block_told : Task → ℕ → Pem → Told

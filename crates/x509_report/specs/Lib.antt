@@ -1,5 +1,6 @@
 pub mod Texts
 pub mod Told
+pub mod Dumps
 pub mod Objects
 pub mod Labels
 pub mod Files

@@ -1,5 +1,5 @@
 -- The lines of an object: its own, and where they are asked for those of a list's entries.
-use Rattle.std.specs.Prelude.{ℕ, ◌+◌, List, [], ◌∷◌, Bool, if◌then◌else◌, Option, Some, None, Ok, Err, is_some}
+use Rattle.std.specs.Prelude.{ℕ, ◌+◌, List, [], ◌∷◌, ◌++◌, Bool, if◌then◌else◌, Option, Some, None, Ok, Err, is_some}
 use Rattle.json.specs.Json.{Json}
 use Rattle.sha2.specs.Sha256.{sha256}
 use Rattle.x509_der.specs.Plan.{Outcome}
@@ -15,6 +15,7 @@ use Rattle.x509_report_objects.specs.Objects.{object_told}
 use Rattle.x509_report_objects.specs.Places.{Found, Wishes}
 use Rattle.x509_report_objects.specs.declared.objects.Kind.{Kind}
 use Rattle.x509_report_objects.specs.declared.objects.Kind.TheVariants as kinds
+use Rattle.x509_report.specs.Dumps.{dump_lines, view_of}
 use Rattle.x509_report.specs.Texts.{said}
 use Rattle.x509_report.specs.Told.{Told}
 use Rattle.x509_report.specs.declared.options.Asked.{Asked}
@@ -24,9 +25,10 @@ use Rattle.x509_report.specs.declared.options.Form.{Form}
 pub record Asks : Type 0 where
   pub wishes : Wishes
   pub entries : Bool
+  pub dump : Bool
 
 abbrev pub asks_of : Asked → Asks
-asks_of a = record { wishes = wishes_of a.wishes; entries = a.entries }
+asks_of a = record { wishes = wishes_of a.wishes; entries = a.entries; dump = a.dump }
 
 -- a line an entry, from this number on
 unfoldable pub entry_lines : Form → Found → Option (List ℕ) → ℕ → List Revoked → List (List ℕ)
@@ -43,12 +45,20 @@ entries_of (Err e) = []
 abbrev pub list_lines : Form → Bool → Found → List ℕ → List (List ℕ)
 list_lines form fingerprints p octets = entry_lines form p (fingerprint_of fingerprints octets) 0 (entries_of (certificate_list.read octets))
 
+-- the lines of a list's entries
+abbrev pub members_behind : Asks → Form → Found → List ℕ → Option Kind → List (List ℕ)
+members_behind a form p octets (Some kinds.List) = if a.entries then list_lines form a.wishes.fingerprints p octets else []
+members_behind a form p octets (Some kinds.Certificate) = []
+members_behind a form p octets (Some kinds.Request) = []
+members_behind a form p octets None = []
+
+-- the elements of the octets
+abbrev pub dump_behind : Asks → List ℕ → List (List ℕ)
+dump_behind a octets = if a.dump then dump_lines (view_of a.wishes octets) octets else []
+
 -- what stands behind the line of an object of this kind
 abbrev pub lines_behind : Asks → Form → Found → List ℕ → Option Kind → List (List ℕ)
-lines_behind a form p octets (Some kinds.List) = if a.entries then list_lines form a.wishes.fingerprints p octets else []
-lines_behind a form p octets (Some kinds.Certificate) = []
-lines_behind a form p octets (Some kinds.Request) = []
-lines_behind a form p octets None = []
+lines_behind a form p octets kind = members_behind a form p octets kind ++ dump_behind a octets
 
 abbrev pub told_of : Asks → Form → Found → List ℕ → Option Kind × Json → Told
 told_of a form p octets r = record { taken = is_some r.0; lines = said form r.1 ∷ lines_behind a form p octets r.0 }

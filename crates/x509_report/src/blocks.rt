@@ -142,6 +142,7 @@ fn report_kind<W: Write>(
             let asked = Asked {
                 wishes: only(&asked.wishes, kind),
                 entries: asked.entries,
+                dump: asked.dump,
             };
             report_wanted(alloc, printer, &asked, place, block)
         }

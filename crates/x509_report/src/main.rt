@@ -3,6 +3,7 @@
 #![tactic(auto)]
 
 mod blocks;
+mod dumps;
 mod files;
 mod options;
 mod printer;

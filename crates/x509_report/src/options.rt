@@ -20,6 +20,8 @@ pub struct Asked {
     pub wishes: Wishes,
     /// Whether each entry of a list gets a line of its own.
     pub entries: bool,
+    /// Whether the elements of each object are told.
+    pub dump: bool,
 }
 
 /// What the command line asks for.
@@ -48,6 +50,7 @@ fn command<'a>(alloc: Global) -> Result<Command<'a>, AllocError> {
     let json = flag(alloc, "json", "One line of JSON an object");
     let strict = flag(alloc, "strict", "Refuse what a lenient rule was needed for");
     let entries = flag(alloc, "entries", "A line for each entry of a list");
+    let dump = flag(alloc, "dump", "The elements of each object, for people");
     let no_digest = flag(alloc, "no-digest", "Leave SHA-256 fingerprints out");
     let kind = Arg::new(alloc, "kind")
         .long("kind")
@@ -66,6 +69,7 @@ fn command<'a>(alloc: Global) -> Result<Command<'a>, AllocError> {
         .arg(json)?
         .arg(strict)?
         .arg(entries)?
+        .arg(dump)?
         .arg(no_digest)?
         .arg(kind)?
         .arg(file)
@@ -94,11 +98,13 @@ fn wishes_of(matches: &ArgMatches<'_>) -> Wishes {
     }
 }
 
-/// The options of these words, the first of which is the program's name. Where both forms are asked for, it is JSON.
+/// The options of these words, the first of which is the program's name. Where both forms are asked for, it is JSON; elements are told to
+/// people alone.
 pub fn parse_options<'a>(alloc: Global, words: &'a [String]) -> Result<Options<'a>, Error> {
     let matches = command(alloc)?.try_get_matches_from(words)?;
     let files = files_of(alloc, &matches)?;
-    let form = if matches.get_flag("json") {
+    let dump = matches.get_flag("dump");
+    let form = if matches.get_flag("json") && !dump {
         Form::Json
     } else {
         Form::Text
@@ -108,6 +114,7 @@ pub fn parse_options<'a>(alloc: Global, words: &'a [String]) -> Result<Options<'
         asked: Asked {
             wishes: wishes_of(&matches),
             entries: matches.get_flag("entries"),
+            dump,
         },
         files,
     })

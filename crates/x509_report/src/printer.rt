@@ -76,6 +76,16 @@ impl<W: Write> Printer<W> {
         Ok(())
     }
 
+    /// Writes a text as it stands.
+    #[tactic(auto, using(crate::proofs::Leads::writing))]
+    pub fn put_text(&mut self, text: &str) -> Result<(), Stop>
+        ensures lines { Tells result (W.contents self.old.out) (W.contents self.new.out) (text.now ∷ []) }
+        ensures form { self.new.form ≡ self.old.form }
+    {
+        self.out.write_all(text.as_bytes())?;
+        Ok(())
+    }
+
     /// Writes what is held back.
     pub fn finish(&mut self) -> io::Result<()> {
         self.out.flush()

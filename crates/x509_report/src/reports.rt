@@ -5,10 +5,11 @@ ghost use Rattle.x509_lists.specs.RevokedCertificate.{revoked_of};
 ghost use Rattle.x509_report_objects.specs.Attempts.{found_of, wishes_of};
 ghost use Rattle.x509_report_objects.specs.Lists.{entry_report};
 ghost use Rattle.x509_report_objects.specs.Objects.{failed_report, object_told, skipped_report};
-ghost use Rattle.x509_report.specs.Objects.{asks_of, entry_lines, fingerprint_of, lines_behind, lines_of_object, list_lines};
+ghost use Rattle.x509_report.specs.Objects.{asks_of, dump_behind, entry_lines, fingerprint_of, lines_behind, lines_of_object, list_lines, members_behind};
 ghost use Rattle.x509_report.specs.Texts.{said};
 ghost use Rattle.x509_report.specs.Told.{Tells, one};
 
+use crate::dumps::report_dump;
 use crate::options::Asked;
 use crate::printer::Printer;
 use crate::stop::Stop;
@@ -93,7 +94,47 @@ fn report_entries<W: Write>(
     }
 }
 
-/// What stands behind the line of an object of this kind: where that is asked for, the lines of a list's entries.
+/// What is told of the members of an object of this kind: where that is asked for, the lines of a list's entries.
+fn report_members<W: Write>(
+    alloc: Global,
+    printer: &mut Printer<W>,
+    asked: &Asked,
+    place: &Found<'_>,
+    octets: &[u8],
+    kind: Option<Kind>,
+) -> Result<(), Stop>
+    ensures lines { Tells result (W.contents printer.old.out) (W.contents printer.new.out)
+        (members_behind (asks_of asked.now) printer.old.form (found_of place.now) octets.now kind) }
+    ensures form { printer.new.form ≡ printer.old.form }
+{
+    match kind {
+        Some(Kind::List) => if asked.entries {
+            report_entries(alloc, printer, asked.wishes.fingerprints, place, octets)
+        } else {
+            Ok(())
+        },
+        Some(Kind::Certificate) | Some(Kind::Request) | None => Ok(()),
+    }
+}
+
+/// The elements of the octets, where that is asked for.
+fn report_elements_of<W: Write>(
+    alloc: Global,
+    printer: &mut Printer<W>,
+    asked: &Asked,
+    octets: &[u8],
+) -> Result<(), Stop>
+    ensures lines { Tells result (W.contents printer.old.out) (W.contents printer.new.out) (dump_behind (asks_of asked.now) octets.now) }
+    ensures form { printer.new.form ≡ printer.old.form }
+{
+    if asked.dump {
+        report_dump(alloc, printer, &asked.wishes, octets)
+    } else {
+        Ok(())
+    }
+}
+
+/// What stands behind the line of an object of this kind: the lines of a list's entries, and the elements of the object.
 fn report_behind<W: Write>(
     alloc: Global,
     printer: &mut Printer<W>,
@@ -106,14 +147,8 @@ fn report_behind<W: Write>(
         (lines_behind (asks_of asked.now) printer.old.form (found_of place.now) octets.now kind) }
     ensures form { printer.new.form ≡ printer.old.form }
 {
-    match kind {
-        Some(Kind::List) => if asked.entries {
-            report_entries(alloc, printer, asked.wishes.fingerprints, place, octets)
-        } else {
-            Ok(())
-        },
-        Some(Kind::Certificate) | Some(Kind::Request) | None => Ok(()),
-    }
+    report_members(alloc, printer, asked, place, octets, kind)?;
+    report_elements_of(alloc, printer, asked, octets)
 }
 
 /// The line of the object at the front of the octets. Tells which kind it is; None where it was refused.

@@ -1,0 +1,12 @@
+-- The refusal is that of the grammar, and so is its octet.
+use Rattle.std.proofs.Common.{arith, rules}
+use Rattle.x509_requests.specs.Request.{certification_request, certification_request_laws}
+use Rattle.x509_report.proofs.ElementLines.{is_refused, is_taken}
+use Rattle.x509_report.proofs.dumps.request_refusal.Goals as goal
+
+pub returns-in-Ok : goal.returns-in-Ok
+returns-in-Ok c = is_taken certification_request c.args.octets.now _ c.in-Ok.ensures.reads
+
+pub returns-in-Err-parse_x509_csr_located : goal.returns-in-Err-parse_x509_csr_located
+returns-in-Err-parse_x509_csr_located c =
+    is_refused _ certification_request c.args.octets.now c.in-Err-parse_x509_csr_located.located certification_request_laws.laws.lawful.agrees (λ k. omega (arith, c.type_inv.octets k)) c.in-Err-parse_x509_csr_located.ensures.exact (search rules)

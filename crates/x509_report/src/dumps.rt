@@ -1,0 +1,293 @@
+//! The elements of an object, a line each.
+
+ghost use Rattle.std.specs.Prelude.{◌≡◌, ◌++◌, IfOk, IsOk, OnOk, string_bytes, true};
+ghost use Rattle.x509_certs.specs.Certificate.{certificate};
+ghost use Rattle.x509_lists.specs.CertificateList.{certificate_list};
+ghost use Rattle.x509_requests.specs.Request.{certification_request};
+ghost use Rattle.x509_dump.specs.Elements.{line_of};
+ghost use Rattle.x509_report_objects.specs.Attempts.{wishes_of};
+ghost use Rattle.x509_report.specs.Dumps.{dump_lines, element_lines, found_lines, mark_behind, mark_in, mark_text, marked, part_of, part_word, refusal_of, seen_by, seen_where, view_of};
+ghost use Rattle.x509_report.specs.Told.{Tells};
+
+use crate::printer::Printer;
+use crate::stop::Stop;
+use std::alloc::{AllocError, Global};
+use std::io::Write;
+use x509_certs::{parse_x509_certificate_located, parse_x509_certificate_marked};
+use x509_der::Located;
+use x509_dump::{DumpLine, dump, push_line};
+use x509_fields::X509Error;
+use x509_lists::{parse_x509_crl_located, parse_x509_crl_marked};
+use x509_paths::Part;
+use x509_report_objects::Wishes;
+use x509_requests::{parse_x509_csr_located, parse_x509_csr_marked};
+
+/// Which of its readers an object is seen by.
+#[derive(Clone, Copy, Debug)]
+pub enum View {
+    /// None was asked.
+    Nothing,
+    /// All that were asked refuse it, this one at the furthest octet.
+    Refused(Part, Located<X509Error>),
+    /// This is the first that takes it.
+    Taken(Part),
+}
+
+/// Why the octets are no certificate; none where they are one.
+fn certificate_refusal(alloc: Global, octets: &[u8]) -> Result<Option<Located<X509Error>>, Stop>
+    ensures { IfOk result (λ r. r ≡ refusal_of (certificate true) octets.now) }
+{
+    match parse_x509_certificate_marked(alloc, octets) {
+        Ok(_) => Ok(None),
+        Err(refusal) => if refusal.is_out_of_memory() {
+            Err(Stop::Memory)
+        } else {
+            match parse_x509_certificate_located(alloc, octets) {
+                Err(located) if !located.why.is_out_of_memory() => Ok(Some(located)),
+                _ => Err(Stop::Memory),
+            }
+        },
+    }
+}
+
+/// Why they are no list of revoked certificates; none where they are one.
+fn list_refusal(alloc: Global, octets: &[u8]) -> Result<Option<Located<X509Error>>, Stop>
+    ensures { IfOk result (λ r. r ≡ refusal_of certificate_list octets.now) }
+{
+    match parse_x509_crl_marked(alloc, octets) {
+        Ok(_) => Ok(None),
+        Err(refusal) => if refusal.is_out_of_memory() {
+            Err(Stop::Memory)
+        } else {
+            match parse_x509_crl_located(alloc, octets) {
+                Err(located) if !located.why.is_out_of_memory() => Ok(Some(located)),
+                _ => Err(Stop::Memory),
+            }
+        },
+    }
+}
+
+/// Why they are no certification request; none where they are one.
+fn request_refusal(alloc: Global, octets: &[u8]) -> Result<Option<Located<X509Error>>, Stop>
+    ensures { IfOk result (λ r. r ≡ refusal_of certification_request octets.now) }
+{
+    match parse_x509_csr_marked(alloc, octets) {
+        Ok(_) => Ok(None),
+        Err(refusal) => if refusal.is_out_of_memory() {
+            Err(Stop::Memory)
+        } else {
+            match parse_x509_csr_located(alloc, octets) {
+                Err(located) if !located.why.is_out_of_memory() => Ok(Some(located)),
+                _ => Err(Stop::Memory),
+            }
+        },
+    }
+}
+
+/// The view behind what one more reader says.
+fn seen_by(view: View, part: Part, refusal: Option<Located<X509Error>>) -> View
+    ensures { result ≡ seen_by view part refusal }
+{
+    match view {
+        View::Taken(_) => view,
+        View::Nothing => match refusal {
+            None => View::Taken(part),
+            Some(refusal) => View::Refused(part, refusal),
+        },
+        View::Refused(_, first) => match refusal {
+            None => View::Taken(part),
+            Some(refusal) => if first.at < refusal.at {
+                View::Refused(part, refusal)
+            } else {
+                view
+            },
+        },
+    }
+}
+
+/// The view behind the reader of certificates, where that is wanted.
+fn as_certificate(alloc: Global, wanted: bool, view: View, octets: &[u8]) -> Result<View, Stop>
+    ensures { IfOk result (λ v. v ≡ seen_where wanted view Part.Certificate (refusal_of (certificate true) octets.now)) }
+{
+    if !wanted {
+        return Ok(view);
+    }
+    let refusal = certificate_refusal(alloc, octets)?;
+    Ok(seen_by(view, Part::Certificate, refusal))
+}
+
+/// The view behind the reader of lists, where that is wanted.
+fn as_list(alloc: Global, wanted: bool, view: View, octets: &[u8]) -> Result<View, Stop>
+    ensures { IfOk result (λ v. v ≡ seen_where wanted view Part.List (refusal_of certificate_list octets.now)) }
+{
+    if !wanted {
+        return Ok(view);
+    }
+    let refusal = list_refusal(alloc, octets)?;
+    Ok(seen_by(view, Part::List, refusal))
+}
+
+/// The view behind the reader of requests, where that is wanted.
+fn as_request(alloc: Global, wanted: bool, view: View, octets: &[u8]) -> Result<View, Stop>
+    ensures { IfOk result (λ v. v ≡ seen_where wanted view Part.Request (refusal_of certification_request octets.now)) }
+{
+    if !wanted {
+        return Ok(view);
+    }
+    let refusal = request_refusal(alloc, octets)?;
+    Ok(seen_by(view, Part::Request, refusal))
+}
+
+/// Which of the readers that are wanted an object is seen by.
+#[tactic(auto, unfolding(crate::specs::Dumps::view_of))]
+fn view_of(alloc: Global, wishes: &Wishes, octets: &[u8]) -> Result<View, Stop>
+    ensures { IfOk result (λ view. view ≡ view_of (wishes_of wishes.now) octets.now) }
+{
+    let view = as_certificate(alloc, wishes.certificates, View::Nothing, octets)?;
+    let view = as_list(alloc, wishes.lists, view, octets)?;
+    as_request(alloc, wishes.requests, view, octets)
+}
+
+/// What the names of elements are those of.
+fn part_of(view: &View) -> Part
+    ensures { result ≡ part_of view.now }
+{
+    match view {
+        View::Nothing => Part::Whole,
+        View::Refused(part, _) | View::Taken(part) => *part,
+    }
+}
+
+/// What a reader reads, in a word.
+fn part_word(part: Part) -> &'static str
+    ensures { result.now ≡ part_word part }
+{
+    match part {
+        Part::Certificate => "certificate",
+        Part::List => "list",
+        Part::Request => "request",
+        _ => "object",
+    }
+}
+
+/// Adds a line that marks where a reader refuses, below the line that holds the octet.
+fn push_mark(text: &mut String, part: Part, refusal: &Located<X509Error>) -> Result<(), AllocError>
+    ensures { OnOk result (string_bytes text.new ≡ string_bytes text.old ++ mark_text part refusal.now) }
+{
+    let at = refusal.at;
+    let kind = part_word(part);
+    let word = refusal.why.word();
+    write!(text, "{at:>5}:^ no {kind}: {word}\n")
+}
+
+/// Adds the mark, where the line holds the octet.
+fn push_mark_in(text: &mut String, view: &View, line: &DumpLine<'_>) -> Result<(), AllocError>
+    ensures { OnOk result (string_bytes text.new ≡ string_bytes text.old ++ mark_in view.now (line_of line.now)) }
+{
+    match view {
+        View::Refused(part, refusal) => {
+            let at = refusal.at;
+            if line.offset <= at && at - line.offset < line.octets.len() {
+                push_mark(text, *part, refusal)
+            } else {
+                Ok(())
+            }
+        }
+        View::Nothing | View::Taken(_) => Ok(()),
+    }
+}
+
+/// The mark behind the last line, where the octet is none of the object.
+fn push_mark_behind(text: &mut String, view: &View, octets: &[u8]) -> Result<(), AllocError>
+    ensures { OnOk result (string_bytes text.new ≡ string_bytes text.old ++ mark_behind view.now octets.now) }
+{
+    match view {
+        View::Refused(part, refusal) => if octets.len() <= refusal.at {
+            push_mark(text, *part, refusal)
+        } else {
+            Ok(())
+        },
+        View::Nothing | View::Taken(_) => Ok(()),
+    }
+}
+
+/// A line, and the mark below it.
+#[tactic(auto, using(crate::proofs::ElementLines::texts))]
+fn text_of(alloc: Global, view: &View, line: &DumpLine<'_>) -> Result<String, AllocError>
+    ensures { IfOk result (λ text. string_bytes text ≡ marked view.now (line_of line.now)) }
+{
+    let mut text = String::new(alloc);
+    push_line(alloc, &mut text, line)?;
+    push_mark_in(&mut text, view, line)?;
+    Ok(text)
+}
+
+/// A line, where memory was there for it.
+fn report_found<W: Write>(
+    alloc: Global,
+    printer: &mut Printer<W>,
+    view: &View,
+    found: Result<DumpLine<'_>, AllocError>,
+) -> Result<(), Stop>
+    ensures lines { Tells result (W.contents printer.old.out) (W.contents printer.new.out) (found_lines view.now found.entry) }
+    ensures found { OnOk result (IsOk found.entry) }
+    ensures form { printer.new.form ≡ printer.old.form }
+{
+    let line = found?;
+    let text = text_of(alloc, view, &line)?;
+    printer.put_text(text.as_str())
+}
+
+/// The lines of the elements.
+fn report_lines<W: Write>(
+    alloc: Global,
+    printer: &mut Printer<W>,
+    view: &View,
+    octets: &[u8],
+) -> Result<(), Stop>
+    ensures lines { Tells result (W.contents printer.old.out) (W.contents printer.new.out) (element_lines view.now octets.now) }
+    ensures form { printer.new.form ≡ printer.old.form }
+{
+    for found in dump(alloc, part_of(view), octets) {
+        report_found(alloc, printer, view, found)?;
+    }
+    Ok(())
+}
+
+/// The mark behind the last line, where the octet is none of the object.
+fn text_behind(alloc: Global, view: &View, octets: &[u8]) -> Result<String, AllocError>
+    ensures { IfOk result (λ text. string_bytes text ≡ mark_behind view.now octets.now) }
+{
+    let mut text = String::new(alloc);
+    push_mark_behind(&mut text, view, octets)?;
+    Ok(text)
+}
+
+/// The elements of an object as it is seen.
+fn report_view<W: Write>(
+    alloc: Global,
+    printer: &mut Printer<W>,
+    view: &View,
+    octets: &[u8],
+) -> Result<(), Stop>
+    ensures lines { Tells result (W.contents printer.old.out) (W.contents printer.new.out) (dump_lines view.now octets.now) }
+    ensures form { printer.new.form ≡ printer.old.form }
+{
+    report_lines(alloc, printer, view, octets)?;
+    let behind = text_behind(alloc, view, octets)?;
+    printer.put_text(behind.as_str())
+}
+
+/// The elements of an object, named by the reader that it is seen by, and a mark where that refuses it.
+pub fn report_dump<W: Write>(
+    alloc: Global,
+    printer: &mut Printer<W>,
+    wishes: &Wishes,
+    octets: &[u8],
+) -> Result<(), Stop>
+    ensures lines { Tells result (W.contents printer.old.out) (W.contents printer.new.out) (dump_lines (view_of (wishes_of wishes.now) octets.now) octets.now) }
+    ensures form { printer.new.form ≡ printer.old.form }
+{
+    let view = view_of(alloc, wishes, octets)?;
+    report_view(alloc, printer, &view, octets)
+}
