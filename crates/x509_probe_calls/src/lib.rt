@@ -7,6 +7,7 @@ mod anything;
 mod calls;
 mod columns;
 mod constants;
+mod dumps;
 mod groups;
 mod keys;
 mod look_ups;
@@ -24,6 +25,7 @@ pub fn answer(word: &str, a: &[u8], b: &[u8], out: &mut Answer) -> bool {
         || orders::answer(word, a, b, out)
         || columns::answer(word, a, out)
         || constants::answer(word, a, out)
+        || dumps::answer(word, a, out)
         || look_ups::answer(word, a, b, out)
         || groups::answer(word, a, out)
         || keys::answer(word, a, b, out)
