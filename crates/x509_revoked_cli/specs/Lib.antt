@@ -1,0 +1,5 @@
+pub mod Answers
+pub mod Serials
+pub mod Search
+pub mod Reports
+pub mod Runs

@@ -1,0 +1,126 @@
+//! What a list says of serials, by the index that is kept of it, where one is asked for.
+
+ghost use Rattle.std.specs.Prelude.{◌≡◌, IfOk};
+ghost use Rattle.x509_lists.specs.ListEntries.{tbs_entries_of};
+ghost use Rattle.x509_revoked.specs.OctetsIndex.{indexed_entries};
+ghost use Rattle.x509_revoked_cli.specs.Runs.{IsReportOf};
+ghost use Rattle.x509_revoked_cli.specs.Search.{LooksThrough};
+
+use crate::names::names_with_text;
+use crate::options::Options;
+use crate::report::{Report, report_serials};
+use crate::search::Search;
+use crate::serials::Serial;
+use crate::stop::Stop;
+use std::{fmt, fs, io};
+use x509_lists::{TbsCertListEntries, parse_x509_crl_entries_located};
+use x509_revoked::{EntriesIndex, IndexError};
+
+/// Reading, writing or memory failed, or the list was refused.
+pub const STOPPED: u8 = 3;
+
+/// With more serials than these an index is built, if none is kept.
+const FEW: usize = 16;
+
+/// Tells on standard error why the program stops, and gives its status.
+pub fn stopped<W: fmt::Display>(rt: &HostRuntime, of: &str, why: &W) -> u8 {
+    let _ = eprintln!(rt; "x509_revoked: {of}: {why}");
+    STOPPED
+}
+
+/// Writes an index into its file.
+fn keep(rt: &HostRuntime, file: &str, index: &EntriesIndex<'_>) -> Result<(), u8> {
+    match index.to_bytes(rt.alloc()) {
+        Ok(octets) => match fs::write(rt, file, octets.as_slice()) {
+            Ok(()) => Ok(()),
+            Err(why) => Err(stopped(rt, file, &why)),
+        },
+        Err(why) => Err(stopped(rt, file, &why)),
+    }
+}
+
+/// The index of a list: the kept one, where it fits, else one made anew, which is kept then.
+fn kept_index<'a>(
+    rt: &HostRuntime,
+    file: &str,
+    tbs: &TbsCertListEntries<'a>,
+) -> Result<EntriesIndex<'a>, u8>
+    ensures { IfOk result (λ index. indexed_entries index ≡ (tbs_entries_of tbs.now).revoked_certificates) }
+{
+    let entries = &tbs.revoked_certificates;
+    match fs::read(rt, file) {
+        Ok(octets) => match EntriesIndex::from_bytes(rt.alloc(), entries, octets.as_slice()) {
+            Ok(index) => return Ok(index),
+            Err(IndexError::OutOfMemory) => return Err(stopped(rt, file, &Stop::Memory.why())),
+            Err(why) => {
+                let _ = eprintln!(rt; "x509_revoked: {file}: {why}; made anew");
+            }
+        },
+        Err(why) => {
+            if why.kind() != io::ErrorKind::NotFound {
+                return Err(stopped(rt, file, &why));
+            }
+        }
+    }
+    match EntriesIndex::build(rt.alloc(), entries) {
+        Ok(index) => {
+            keep(rt, file, &index)?;
+            Ok(index)
+        }
+        Err(why) => Err(stopped(rt, file, &why)),
+    }
+}
+
+/// Where the entries are looked for.
+fn search_for<'l, 'a>(
+    rt: &HostRuntime,
+    options: &Options<'_>,
+    tbs: &'l TbsCertListEntries<'a>,
+    count: usize,
+) -> Result<Search<'l, 'a>, u8>
+    ensures { IfOk result (λ search. LooksThrough (tbs_entries_of tbs.now) options.now.issuer search) }
+{
+    let entries = &tbs.revoked_certificates;
+    if let Some(text) = options.issuer {
+        return match names_with_text(rt.alloc(), tbs, text) {
+            Ok(names) => {
+                if names.is_empty() {
+                    let _ = eprintln!(rt;
+                        "x509_revoked: {text}: no entry is of an issuer of this name"
+                    );
+                }
+                Ok(Search::Issuers(tbs, names))
+            }
+            Err(stop) => Err(stopped(rt, options.list, &stop.why())),
+        };
+    }
+    if let Some(file) = options.index {
+        return Ok(Search::Index(kept_index(rt, file, tbs)?));
+    }
+    if count > FEW {
+        if let Ok(index) = EntriesIndex::build(rt.alloc(), entries) {
+            return Ok(Search::Index(index));
+        }
+    }
+    Ok(Search::Scan(*entries))
+}
+
+/// The lines of serials by the list at the front of the octets. The error is the status, where there are none.
+pub fn lines_of_list(
+    rt: &HostRuntime,
+    options: &Options<'_>,
+    octets: &[u8],
+    serials: &[Serial<'_>],
+) -> Result<Report, u8>
+    ensures { IfOk result (IsReportOf octets.now options.now.issuer serials.now) }
+{
+    let list = match parse_x509_crl_entries_located(rt.alloc(), octets) {
+        Ok((_, list)) => list,
+        Err(why) => return Err(stopped(rt, options.list, &why)),
+    };
+    let search = search_for(rt, options, &list.tbs_cert_list, serials.len())?;
+    match report_serials(rt.alloc(), &search, serials) {
+        Ok(report) => Ok(report),
+        Err(stop) => Err(stopped(rt, options.list, &stop.why())),
+    }
+}
