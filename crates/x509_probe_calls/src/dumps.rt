@@ -6,10 +6,7 @@ use x509_parser::paths::Part;
 use x509_probe_show::Answer;
 
 // A line as text.
-fn line_text(
-    alloc: Global,
-    found: Result<DumpLine<'_>, AllocError>,
-) -> Result<String, AllocError> {
+fn line_text(alloc: Global, found: Result<DumpLine<'_>, AllocError>) -> Result<String, AllocError> {
     let line = found?;
     let mut text = String::new(alloc);
     push_line(alloc, &mut text, &line)?;
