@@ -15,7 +15,7 @@ use x509_parser::revocation_list::{
 };
 use x509_parser::x509::X509Name;
 use x509_probe_show::{Answer, Hasher, Look, Show, look_at, look_in, put_result};
-use x509_revoked::RevocationIndex;
+use x509_revoked::{EntriesIndex, IndexError, RevocationIndex};
 
 /// The extensions by their identifiers.
 type Map<'v, 'a> = HashMap<Oid<'a>, &'v X509Extension<'a>, Hasher>;
@@ -212,6 +212,73 @@ impl Look<TbsCertListEntries<'_>> for Serial<'_> {
     }
 }
 
+// Why there is no index. Want of memory is the program's own, and no answer.
+fn put_index_error(out: &mut Answer, why: IndexError) {
+    match why {
+        IndexError::OutOfMemory => out.stop(),
+        _ => {
+            out.debug(&why);
+            out.add(" (");
+            out.display(&why);
+            out.add(")");
+        }
+    }
+}
+
+// An index as octets.
+fn put_index(out: &mut Answer, index: &EntriesIndex<'_>) {
+    match index.to_bytes(out.alloc()) {
+        Ok(file) => out.hex(file.as_slice()),
+        Err(why) => put_index_error(out, why),
+    }
+}
+
+/// The entry of a serial by the index over the octets, beside the scan.
+#[derive(Clone, Copy)]
+struct Indexed<'s>(UnsignedBytes<'s>);
+
+impl Look<TbsCertListEntries<'_>> for Indexed<'_> {
+    fn look(&self, list: &TbsCertListEntries<'_>, out: &mut Answer) {
+        let entries = &list.revoked_certificates;
+        put_position(out, entries.position(&self.0));
+        out.add(" ");
+        match EntriesIndex::build(out.alloc(), entries) {
+            Ok(index) => {
+                let (offset, compared) = index.find_counted(&self.0);
+                put_position(out, offset);
+                out.add(" ");
+                out.display(&index.len());
+                out.add(" ");
+                out.truth(index.is_empty());
+                out.add(" ");
+                out.display(&compared);
+                out.add(" ");
+                match index.find(out.alloc(), &self.0) {
+                    Ok(Some(entry)) => entry.show(out),
+                    Ok(None) => out.add("-"),
+                    Err(kind) => out.error(&kind),
+                }
+                out.add(" ");
+                put_index(out, &index);
+            }
+            Err(why) => put_index_error(out, why),
+        }
+    }
+}
+
+/// An index that is read back, as octets once more.
+#[derive(Clone, Copy)]
+struct IndexFile<'f>(&'f [u8]);
+
+impl Look<TbsCertListEntries<'_>> for IndexFile<'_> {
+    fn look(&self, list: &TbsCertListEntries<'_>, out: &mut Answer) {
+        match EntriesIndex::from_bytes(out.alloc(), &list.revoked_certificates, self.0) {
+            Ok(index) => put_index(out, &index),
+            Err(why) => put_index_error(out, why),
+        }
+    }
+}
+
 /// The entry of an issuer's serial.
 #[derive(Drop)]
 struct IssuedBy<'n, 's> {
@@ -260,6 +327,10 @@ pub fn answer(word: &str, a: &[u8], b: &[u8], out: &mut Answer) -> bool {
             look_in::<TbsCertListEntries, _>(out, &Serial(UnsignedBytes::new(b)), a);
         }
         "find_for" => issued(out, a, b),
+        "octets_index" => {
+            look_in::<TbsCertListEntries, _>(out, &Indexed(UnsignedBytes::new(b)), a);
+        }
+        "index_from_bytes" => look_in::<TbsCertListEntries, _>(out, &IndexFile(b), a),
         _ => return false,
     }
     true
