@@ -11,10 +11,9 @@ use Rattle.x509_der.specs.Unsigned.{unsigned_bytes}
 use Rattle.x509_lists.specs.FindRevoked.{serial_numbers}
 use Rattle.x509_lists.specs.RevokedCertificate.{Revoked, revoked_of}
 use Rattle.x509_lists.specs.declared.revoked_certificate.RevokedCertificate.{RevokedCertificate}
-use Rattle.x509_revoked.specs.Entries.{Indexed, indexed_from, number_at}
+use Rattle.x509_revoked.specs.Entries.{Indexed, indexed_from, number_at, position_at}
 use Rattle.x509_revoked.proofs.Least.{answers_first}
 use Rattle.x509_revoked.proofs.Ranked.{IsBefore, AreRanked, order_of, ties_of}
-use Rattle.x509_revoked.proofs.Halves.{position_at}
 use Rattle.x509_c.specs.Index.{IsIndexOf, rank, row_of}
 use Rattle.x509_c.specs.Rows.{RowsShowBelow}
 use Rattle.x509_c.specs.declared.index.IndexRow.{IndexRow}

@@ -5,8 +5,8 @@ use Rattle.std.proofs.lemmas.Bool.{cases_lt}
 use Rattle.std.proofs.lemmas.Bool.Decides.{nat_tests}
 use Rattle.std.specs.Int.Digits.{number_from_digits}
 use Rattle.x509_der.specs.Unsigned.{unsigned_number}
-use Rattle.x509_revoked.specs.Entries.{number_at, position_in}
-use Rattle.x509_revoked.proofs.Halves.{less_up_to, not_less_from, found_first, found_nowhere, position_at}
+use Rattle.x509_revoked.specs.Entries.{number_at, position_at, position_in}
+use Rattle.x509_revoked.proofs.Halves.{less_up_to, not_less_from, found_first, found_nowhere}
 use Rattle.x509_c.specs.Index.{row_of}
 use Rattle.x509_c.specs.declared.index.IndexRow.{IndexRow}
 use Rattle.x509_c.proofs.Ranks.{number_here, position_here}
