@@ -39,7 +39,7 @@ fn keep(rt: &HostRuntime, file: &str, index: &EntriesIndex<'_>) -> Result<(), u8
     }
 }
 
-/// The index of a list: the kept one, where it fits, else one made anew, which is kept then.
+/// The index of a list: the kept one, where it fits, else one made anew, which is kept then. A file that is no index stays as it is, and ends the run.
 fn kept_index<'a>(
     rt: &HostRuntime,
     file: &str,
@@ -52,6 +52,8 @@ fn kept_index<'a>(
         Ok(octets) => match EntriesIndex::from_bytes(rt.alloc(), entries, octets.as_slice()) {
             Ok(index) => return Ok(index),
             Err(IndexError::OutOfMemory) => return Err(stopped(rt, file, &Stop::Memory.why())),
+            // what isn't an index may be anything of the user's
+            Err(IndexError::NotAnIndex) => return Err(stopped(rt, file, &IndexError::NotAnIndex)),
             Err(why) => {
                 let _ = eprintln!(rt; "x509_revoked: {file}: {why}; made anew");
             }
