@@ -1,5 +1,5 @@
 -- The certificates of a list that are read where they stand, as they are asked for (RFC 5280, 5.1.2.6).
-use Rattle.std.specs.Prelude.{◌≡◌, List, [], ◌∷◌, Option, MatchOption, MatchResult, Result}
+use Rattle.std.specs.Prelude.{◌≡◌, ℕ, List, [], ◌∷◌, Option, MatchOption, MatchResult, Result}
 use Rattle.x509_der.specs.Looks.{behind}
 use Rattle.x509_der.specs.Unsigned.{unsigned_bytes}
 use Rattle.x509_der.specs.declared.unsigned.UnsignedBytes.{UnsignedBytes}
@@ -10,6 +10,10 @@ use Rattle.x509_lists.specs.RevokedCertificate.{Revoked, revoked_of}
 use Rattle.x509_lists.specs.declared.revoked_certificate.RevokedCertificate.{RevokedCertificate}
 use Rattle.x509_lists.specs.declared.revoked_entries.RevokedEntries.{RevokedEntries}
 use Rattle.x509_lists.specs.declared.entries_iter.EntriesIter.{EntriesIter}
+
+-- the octets in which they stand, end to end
+abbrev pub octets_of : RevokedEntries → List ℕ
+octets_of r = r.bytes.now
 
 -- the certificates, in order
 abbrev pub entries_of : RevokedEntries → List Revoked

@@ -29,7 +29,7 @@ impl<'a> RevokedEntries<'a> {
     ghost use Rattle.x509_der.specs.Place.{at};
     ghost use Rattle.x509_der.specs.Plan.{got, members};
     ghost use Rattle.x509_lists.specs.RevokedCertificate.{revoked};
-    ghost use Rattle.x509_lists.specs.RevokedEntries.{entries_of, entries_left};
+    ghost use Rattle.x509_lists.specs.RevokedEntries.{octets_of, entries_of, entries_left};
 
     /// No certificates.
     pub(crate) fn none() -> RevokedEntries<'a>
@@ -57,7 +57,8 @@ impl<'a> RevokedEntries<'a> {
 
     /// The octets of the certificates, end to end, with nothing behind the last.
     pub fn as_bytes(&self) -> &'a [u8]
-        ensures { members revoked result.now ≡ ([], entries_of self.now) }
+        ensures octets { result.now ≡ octets_of self.now }
+        ensures holds { members revoked result.now ≡ ([], entries_of self.now) }
     {
         self.bytes
     }

@@ -17,7 +17,7 @@ use Rattle.x509_lists.specs.RevokedCertificate.{Revoked, revoked}
 use Rattle.x509_revoked.specs.Beginnings.{beginnings}
 use Rattle.x509_revoked.specs.Entries.{position_in, AreInOrder}
 use Rattle.x509_revoked.specs.IndexFile.{head_octets, offset_octets, index_octets}
-use Rattle.x509_revoked.specs.IndexOf.{AreIndexOf, NoFileOf, placed}
+use Rattle.x509_revoked.specs.IndexOf.{AreIndexOf, IsFileOf, placed}
 use Rattle.x509_revoked.specs.SerialOrder.{by_serial, number_at_offset}
 use Rattle.x509_revoked.proofs.Codes.{Fit, offsets_once}
 use Rattle.x509_revoked.proofs.Filled.{filled_by, up_begins, ties_begin, length_begins, begins_within, numbers_begin, StandsAt, stands_at}
@@ -134,7 +134,8 @@ stands_first octets count n found offset holds is answer =
 
 -- ---- a file that is none
 
-pub no_file : (entries : List Revoked) (octets file : List ℕ) (count : ℕ) → members revoked octets ≡ ([], entries) → count ≡ length entries
-    → ((offsets : List ℕ) → AreIndexOf octets offsets → length offsets ≡ count → file ≡ index_octets (length octets) offsets → ⊥) → NoFileOf entries file
-no_file entries octets file count fills counted none =
-    (octets, fills, λ kept. none kept.0 kept.1 (index_length octets kept.0 kept.1 ∙ ap (λ (m : List ℕ × List Revoked). length m.1) fills ∙ sym counted) kept.2)
+pub no_file : (entries : List Revoked) (octets window file : List ℕ) (count : ℕ) → octets ≡ window → members revoked octets ≡ ([], entries) → count ≡ length entries
+    → ((offsets : List ℕ) → AreIndexOf octets offsets → length offsets ≡ count → file ≡ index_octets (length octets) offsets → ⊥) → IsFileOf window file → ⊥
+no_file entries octets window file count same fills counted none kept =
+    let own : IsFileOf octets file = subst (λ (w : List ℕ). IsFileOf w file) (sym same) kept in
+    none own.0 own.1 (index_length octets own.0 own.1 ∙ ap (λ (m : List ℕ × List Revoked). length m.1) fills ∙ sym counted) own.2

@@ -1,8 +1,6 @@
 -- When offsets are the index of the entries that fill octets, and when a file is (RFC 5280, 5.1.2.6).
-use Rattle.std.specs.Prelude.{◌≡◌, ◌≤◌, ◌^◌, ℕ, List, [], length}
+use Rattle.std.specs.Prelude.{◌≡◌, ℕ, List, length}
 use Rattle.std.specs.List.Sorted.{IsPermutation, IsSorted}
-use Rattle.x509_der.specs.Plan.{members}
-use Rattle.x509_lists.specs.RevokedCertificate.{Revoked, revoked}
 use Rattle.x509_revoked.specs.Beginnings.{beginnings}
 use Rattle.x509_revoked.specs.Entries.{Indexed}
 use Rattle.x509_revoked.specs.IndexFile.{index_octets}
@@ -23,11 +21,3 @@ placed octets offset = record { number = number_at_offset octets offset; positio
 -- a file that is the index of the entries which fill the window
 abbrev pub IsFileOf : List ℕ → List ℕ → Type 0
 IsFileOf window file = (offsets : List ℕ) × AreIndexOf window offsets × (file ≡ index_octets (length window) offsets)
-
--- a window that these entries fill, of which the file is no index
-abbrev pub NoFileOf : List Revoked → List ℕ → Type 0
-NoFileOf entries file = (window : List ℕ) × (members revoked window ≡ ([], entries)) × (IsFileOf window file → ⊥)
-
--- a window that these entries fill, of 4 GiB or more
-abbrev pub AreTooLong : List Revoked → Type 0
-AreTooLong entries = (window : List ℕ) × (members revoked window ≡ ([], entries)) × (2 ^ 32 ≤ length window)

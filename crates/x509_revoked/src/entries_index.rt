@@ -4,9 +4,9 @@ ghost use Rattle.std.specs.Prelude.{◌≡◌, ◌==◌, ◌<◌, ◌≤◌, ◌
 ghost use Rattle.x509_der.specs.Unsigned.{unsigned_number};
 ghost use Rattle.x509_fields.specs.declared.error.X509Error.TheVariants.{OutOfMemory};
 ghost use Rattle.x509_lists.specs.EntriesIn.{HoldsEntries};
-ghost use Rattle.x509_lists.specs.RevokedEntries.{entries_of};
+ghost use Rattle.x509_lists.specs.RevokedEntries.{octets_of, entries_of};
 ghost use Rattle.x509_revoked.specs.declared.index_error.IndexError.TheVariants as errors;
-ghost use Rattle.x509_revoked.specs.IndexOf.{AreIndexOf, AreTooLong, IsFileOf, NoFileOf};
+ghost use Rattle.x509_revoked.specs.IndexOf.{AreIndexOf, IsFileOf};
 
 use crate::beginnings::{are_beginnings, read_beginnings};
 use crate::index_error::IndexError;
@@ -48,7 +48,7 @@ impl<'a> EntriesIndex<'a> {
         alloc: Global,
         entries: &RevokedEntries<'a>,
     ) -> Result<EntriesIndex<'a>, IndexError>
-        ensures { MatchResult result (λ index. indexed_entries index ≡ entries_of entries.now) (λ e. (e ≡ errors.OutOfMemory) ⊎ ((e ≡ errors.TooLong) × AreTooLong (entries_of entries.now))) }
+        ensures { MatchResult result (λ index. indexed_entries index ≡ entries_of entries.now) (λ e. (e ≡ errors.OutOfMemory) ⊎ ((e ≡ errors.TooLong) × (2 ^ 32 ≤ length (octets_of entries.now)))) }
     {
         let octets = entries.as_bytes();
         if octets.len() > u32::MAX as usize {
@@ -130,7 +130,7 @@ impl<'a> EntriesIndex<'a> {
         entries: &RevokedEntries<'a>,
         file: &[u8],
     ) -> Result<EntriesIndex<'a>, IndexError>
-        ensures { MatchResult result (λ index. (indexed_entries index ≡ entries_of entries.now) × IsFileOf index.octets.now file.now) (λ e. (e ≡ errors.OutOfMemory) ⊎ (((e ≡ errors.TooLong) × AreTooLong (entries_of entries.now)) ⊎ NoFileOf (entries_of entries.now) file.now)) }
+        ensures { MatchResult result (λ index. (indexed_entries index ≡ entries_of entries.now) × IsFileOf index.octets.now file.now) (λ e. (e ≡ errors.OutOfMemory) ⊎ (((e ≡ errors.TooLong) × (2 ^ 32 ≤ length (octets_of entries.now))) ⊎ (IsFileOf (octets_of entries.now) file.now → ⊥))) }
     {
         let octets = entries.as_bytes();
         if octets.len() > u32::MAX as usize {

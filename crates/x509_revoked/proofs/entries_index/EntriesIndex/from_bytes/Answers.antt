@@ -2,7 +2,7 @@ use Rattle.std.proofs.Common.{rules, ◌≡◌, ◌<◌, ◌^◌, ◌∙◌, len
 use Rattle.std.specs.List.Sorted.{IsPermutation, IsSorted}
 use Rattle.std.proofs.lemmas.List.Elements.{same_from_all_zip}
 use Rattle.std.proofs.lemmas.List.Sorted.{IsNonDecreasingBy-from_sort}
-use Rattle.x509_lists.specs.RevokedEntries.{entries_of}
+use Rattle.x509_lists.specs.RevokedEntries.{octets_of, entries_of}
 use Rattle.x509_revoked.specs.SerialOrder.{by_serial}
 use Rattle.x509_revoked.proofs.Placed.{ascending_begin, holds_as_many, index_fits, index_kept, no_file, one_index}
 use Rattle.x509_revoked.proofs.entries_index.EntriesIndex.from_bytes.Goals as goal
@@ -11,7 +11,7 @@ pub returns-in-Err : goal.returns-in-Err
 returns-in-Err c =
     elim c.in-Err.ensures [
       | inl memory ↦ inl memory
-      | inr none ↦ inr (inr (no_file (entries_of c.args.entries.now) c.as_bytes-octets.result.now c.args.file.now c.len.result c.as_bytes-octets.ensures c.len.ensures (λ kept index counted is. none kept counted is)))
+      | inr none ↦ inr (inr (no_file (entries_of c.args.entries.now) c.as_bytes-octets.result.now (octets_of c.args.entries.now) c.args.file.now c.len.result c.as_bytes-octets.ensures.octets c.as_bytes-octets.ensures.holds c.len.ensures (λ kept index counted is. none kept counted is)))
     ]
 
 pub returns-then-not-are_beginnings : goal.returns-then-not-are_beginnings
@@ -20,7 +20,7 @@ returns-then-not-are_beginnings c =
     let offsets = c.in-Ok.offsets.items in
     let ascending = c.sort_unstable.new.self.items in
     let cloned : c.in-Ok-clone.ascending.items ≡ offsets = same_from_all_zip _ offsets c.in-Ok-clone.ascending.items c.in-Ok-clone.ensures.cases.0 (λ x y h. h) in
-    inr (inr (no_file (entries_of c.args.entries.now) octets c.args.file.now c.len.result c.as_bytes-octets.ensures c.len.ensures (λ kept index counted is.
+    inr (inr (no_file (entries_of c.args.entries.now) octets (octets_of c.args.entries.now) c.args.file.now c.len.result c.as_bytes-octets.ensures.octets c.as_bytes-octets.ensures.holds c.len.ensures (λ kept index counted is.
     (let short : length octets < 2 ^ 32 = omega (arith, c.if-octets.false) in
     let same : offsets ≡ kept = one_index (length octets) offsets kept c.in-Ok.ensures.2 (index_fits octets kept short index) (c.in-Ok.ensures.0 ∙ sym counted) (sym c.in-Ok.ensures.1 ∙ is) in
     let moved : IsPermutation kept ascending = subst (λ xs. IsPermutation xs ascending) (cloned ∙ same) c.sort_unstable.ensures.permutation in
@@ -32,7 +32,7 @@ pub returns-then-not-are_in_order : goal.returns-then-not-are_in_order
 returns-then-not-are_in_order c =
     let octets = c.as_bytes-octets.result.now in
     let offsets = c.in-Ok.offsets.items in
-    inr (inr (no_file (entries_of c.args.entries.now) octets c.args.file.now c.len.result c.as_bytes-octets.ensures c.len.ensures (λ kept index counted is.
+    inr (inr (no_file (entries_of c.args.entries.now) octets (octets_of c.args.entries.now) c.args.file.now c.len.result c.as_bytes-octets.ensures.octets c.as_bytes-octets.ensures.holds c.len.ensures (λ kept index counted is.
     (let short : length octets < 2 ^ 32 = omega (arith, c.if-octets.false) in
     let same : offsets ≡ kept = one_index (length octets) offsets kept c.in-Ok.ensures.2 (index_fits octets kept short index) (c.in-Ok.ensures.0 ∙ sym counted) (sym c.in-Ok.ensures.1 ∙ is) in
     let yes = c.are_in_order.ensures.1 (subst (λ xs. IsSorted (by_serial octets) xs) (sym (c.as_slice-2.ensures.value ∙ same)) index.in_order) in
