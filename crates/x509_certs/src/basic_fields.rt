@@ -36,7 +36,8 @@ pub(crate) fn read_basic_fields<'a, L: Outside>(
     tries: &mut Tries,
     contents: &Window<'a, L>,
 ) -> Result<(Fields<'a, L>, BasicFields<'a>), Refused<X509Error, L>>
-    ensures reads { AnswersAt is_x509_memory true (λ x. (next_of x.0, basic_fields_of x.1)) basic_fields L.adds (bytes_in contents.now) (outside_in contents.now) result }
+    ensures reads { AnswersAt is_x509_memory true (λ x. (next_of x.0, basic_fields_of x.1)) basic_fields L.adds (bytes_in contents.now)
+        (outside_in contents.now) result }
     ensures outer { IfOk result (λ x. outer_of x.0 ≡ outside_in contents.now) }
     ensures marks { IfOk result (λ x. plain_in x.0 ≡ basic_fields.marks (bytes_in contents.now)) }
     ensures grows { tries.old ≤ tries.new }

@@ -8,7 +8,8 @@ ghost use Rattle.x509_der.specs.Promises.{ReadsAt};
 ghost use Rattle.x509_der.specs.Reading.{strict};
 ghost use Rattle.x509_fields.specs.Errors.{is_x509_memory};
 ghost use Rattle.x509_extensions.specs.Extension.{value_bytes};
-ghost use Rattle.x509_certs.specs.Certificate.{Certificate, CertificateStands, is_deep, is_strict, certificate_of, certificate_heads, certificate, certificate_by, certificate_by_laws};
+ghost use Rattle.x509_certs.specs.Certificate.{Certificate, CertificateStands, is_deep, is_strict, certificate_of, certificate_heads, certificate};
+ghost use Rattle.x509_certs.specs.Certificate.{certificate_by, certificate_by_laws};
 ghost use Rattle.x509_certs.specs.Standing.{certificate_by_stands, certificate_refused};
 ghost use Rattle.x509_certs.specs.TbsCertificate.{RefusedAtAnyDepth};
 
@@ -89,8 +90,12 @@ impl X509CertificateParser {
         tries: &mut Tries,
         place: &Place<'a, L>,
     ) -> Result<(X509Certificate<'a>, bool), Refused<X509Error, L>>
-        ensures reads { ReadsAt is_x509_memory true strict (is_constructed 16) certificate_heads certificate_of (certificate (is_deep self.now)) L.adds (at place.now) (outside_of place.now) tries.old tries.new result }
-        ensures shallow { is_deep self.now ≡ false → IfOk result (λ x. tries.new + 9 + 8 * value_bytes ((certificate_of x.0).tbs.extensions) + 8 * length (behind (at place.now)) ≤ tries.old + 8 * length (at place.now)) }
+        ensures reads { ReadsAt is_x509_memory true strict (is_constructed 16) certificate_heads certificate_of (certificate (is_deep self.now)) L.adds
+            (at place.now) (outside_of place.now) tries.old tries.new result }
+        ensures shallow { is_deep self.now ≡ false
+            → IfOk result
+            (λ x. tries.new + 9 + 8 * value_bytes ((certificate_of x.0).tbs.extensions) + 8 * length (behind (at place.now))
+            ≤ tries.old + 8 * length (at place.now)) }
     {
         let (
             Signed {

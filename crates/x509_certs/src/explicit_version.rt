@@ -63,7 +63,9 @@ pub(crate) fn read_version<'a, L: Outside>(
     ensures grows { tries.old ≤ tries.new }
     ensures few_tries { IfErr result (λ _. tries.new ≤ tries.old + (8 * length (next_of fields.now) - 8)) }
     ensures count { IfOk result (λ x. tries.new + length (next_of x.0) ≤ tries.old + length (next_of fields.now)) }
-    ensures least { IfOk result (λ x. AddsAtLeast (option_heads (λ _. 2) (option_view (λ v. v.0) x.1) + min 1 (length (next_of x.0)) - min 1 (length (next_of fields.now))) tries.old tries.new) }
+    ensures least { IfOk result
+        (λ x. AddsAtLeast (option_heads (λ _. 2) (option_view (λ v. v.0) x.1) + min 1 (length (next_of x.0)) - min 1 (length (next_of fields.now))) tries.old
+        tries.new) }
 {
     if fields.are_over() {
         return Ok((fields.same(), None));

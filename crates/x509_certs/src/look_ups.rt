@@ -8,7 +8,9 @@ ghost use Rattle.x509_der.specs.Oid.{oid_bytes};
 ghost use Rattle.x509_der.specs.declared.oid.Oid.{Oid as OidOf};
 ghost use Rattle.x509_fields.specs.declared.error.X509Error.TheVariants.{OutOfMemory, DuplicateExtensions};
 ghost use Rattle.x509_names.specs.Objects as objects;
-ghost use Rattle.x509_extensions.specs.Lookups.{has_oid, oid_eq, unique_of, pointed, all_distinct, typed, typed_or_none, basic_constraints_in, key_usage_in, extended_key_usage_in, policy_constraints_in, inhibit_any_policy_in, policy_mappings_in, subject_names_in, name_constraints_in};
+ghost use Rattle.x509_extensions.specs.Lookups.{has_oid, oid_eq, unique_of, pointed, all_distinct, typed, typed_or_none, basic_constraints_in, key_usage_in};
+ghost use Rattle.x509_extensions.specs.Lookups.{extended_key_usage_in, policy_constraints_in, inhibit_any_policy_in, policy_mappings_in, subject_names_in};
+ghost use Rattle.x509_extensions.specs.Lookups.{name_constraints_in};
 ghost use Rattle.x509_certs.specs.LookUps.{found, says_ca};
 
 use crate::basic_extension::BasicExtension;

@@ -5,7 +5,8 @@ ghost use Rattle.x509_der.specs.Primitives.{is_constructed};
 ghost use Rattle.x509_der.specs.Reading.{strict};
 ghost use Rattle.x509_extensions.specs.Extension.{value_bytes};
 ghost use Rattle.x509_certs.specs.Standing.{tbs_by_stands, tbs_refused};
-ghost use Rattle.x509_certs.specs.TbsCertificate.{RefusedAtAnyDepth, SignedPartStands, Tbs, looks_at_values, takes_plain_alone, tbs_of, tbs_heads, tbs, tbs_by, tbs_by_laws};
+ghost use Rattle.x509_certs.specs.TbsCertificate.{RefusedAtAnyDepth, SignedPartStands, Tbs, looks_at_values, takes_plain_alone, tbs_of, tbs_heads, tbs, tbs_by};
+ghost use Rattle.x509_certs.specs.TbsCertificate.{tbs_by_laws};
 
 use crate::tbs_certificate::TbsCertificate;
 use crate::tbs_reader::TbsReader;

@@ -70,7 +70,8 @@ impl<'a, const N: usize> Elements<'a, N> {
         // One for each member of the window's cut at most, and one where it has a tail.
         ensures bound { (members : List Element) (tail : List ℕ) → Cut window.now members tail → tries.new ≤ tries.old + length members + min 1 (length tail) }
         // The first members of the window's cut.
-        ensures first { (members : List Element) (tail : List ℕ) → Cut window.now members tail → (count_of result ≡ min (length members) N) × IsBehind window.now members (count_of result) (place_at window.now (count_of result)) }
+        ensures first { (members : List Element) (tail : List ℕ) → Cut window.now members tail
+            → (count_of result ≡ min (length members) N) × IsBehind window.now members (count_of result) (place_at window.now (count_of result)) }
     {
         let mut end = Place::look(tries, window);
         let mut entries = [NO_ENTRY; N];
@@ -136,7 +137,8 @@ impl<'a, const N: usize> Elements<'a, N> {
     /// The element with this number.
     pub fn get(&self, k: usize) -> Option<Child<'a>>
         ensures variant { IsSome result ↔ (k < count_of self.now) }
-        ensures element { IfSome result (λ c. element_at loose (place_at (window_of self.now) k) ≡ Ok (place_at (window_of self.now) (suc k), child_element c)) }
+        ensures element { IfSome result
+            (λ c. element_at loose (place_at (window_of self.now) k) ≡ Ok (place_at (window_of self.now) (suc k), child_element c)) }
         ensures whole { IfSome result (λ c. place_at (window_of self.now) k ≡ c.whole.now ++ place_at (window_of self.now) (suc k)) }
         ensures strict { IfSome result (λ c. c.strict ≡ is_some_reading (element_at strict (place_at (window_of self.now) k))) }
     {

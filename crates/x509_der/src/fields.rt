@@ -41,7 +41,8 @@ impl<'a, L: Outside> Fields<'a, L> {
         ensures plain { plain_in result ≡ true }
         ensures tries { TriesOnce tries.old tries.new (bytes_in contents.now) }
         // One for each member of the contents at most, and one where they have a tail.
-        ensures once { (members : List Element) (tail : List ℕ) → Cut (bytes_in contents.now) members tail → tries.new + ahead (next_of result) ≤ tries.old + length members + min 1 (length tail) }
+        ensures once { (members : List Element) (tail : List ℕ) → Cut (bytes_in contents.now) members tail
+            → tries.new + ahead (next_of result) ≤ tries.old + length members + min 1 (length tail) }
     {
         Fields {
             place: Place::inside(tries, contents),
@@ -87,7 +88,8 @@ impl<'a, L: Outside> Fields<'a, L> {
         alloc: Global,
         tries: &mut Tries,
     ) -> Result<(Fields<'a, L>, T), Refused<E, L>>
-        ensures { ReadsNext E.is_memory T.takes_memory T.heads (λ x. (next_of x.0, T.view x.1)) (λ x. outer_of x.0) (λ x. plain_in x.0) T.plan T.tight (plain_in self.now) L.adds (next_of self.now) (outer_of self.now) tries.old tries.new result }
+        ensures { ReadsNext E.is_memory T.takes_memory T.heads (λ x. (next_of x.0, T.view x.1)) (λ x. outer_of x.0) (λ x. plain_in x.0) T.plan T.tight
+            (plain_in self.now) L.adds (next_of self.now) (outer_of self.now) tries.old tries.new result }
     {
         match T::read_at(alloc, tries, &self.place) {
             Ok((value, plain)) => Ok((self.behind(tries, plain), value)),
@@ -102,7 +104,8 @@ impl<'a, L: Outside> Fields<'a, L> {
         alloc: Global,
         tries: &mut Tries,
     ) -> Result<(T, bool), Refused<E, L>>
-        ensures { ReadsLast E.is_memory T.takes_memory T.heads T.view T.plan T.tight (plain_in self.now) L.adds (next_of self.now) (outer_of self.now) tries.old tries.new result }
+        ensures { ReadsLast E.is_memory T.takes_memory T.heads T.view T.plan T.tight (plain_in self.now) L.adds (next_of self.now) (outer_of self.now)
+            tries.old tries.new result }
     {
         match T::read_at(alloc, tries, &self.place) {
             Ok((value, plain)) => Ok((value, self.plain & (plain & self.place.rest().is_empty()))),
@@ -117,7 +120,8 @@ impl<'a, L: Outside> Fields<'a, L> {
         alloc: Global,
         tries: &mut Tries,
     ) -> Result<(Fields<'a, L>, Option<T>), Refused<E, L>>
-        ensures { ReadsSoft E.is_memory T.form T.own_tag T.heads (λ x. (next_of x.0, option_view T.view x.1)) (λ x. outer_of x.0) (λ x. plain_in x.0) T.plan T.tight (plain_in self.now) L.adds (next_of self.now) (outer_of self.now) tries.old tries.new result }
+        ensures { ReadsSoft E.is_memory T.form T.own_tag T.heads (λ x. (next_of x.0, option_view T.view x.1)) (λ x. outer_of x.0) (λ x. plain_in x.0) T.plan
+            T.tight (plain_in self.now) L.adds (next_of self.now) (outer_of self.now) tries.old tries.new result }
     {
         match T::read_at(alloc, tries, &self.place) {
             Ok((value, plain)) => Ok((self.behind(tries, plain), Some(value))),
@@ -138,8 +142,10 @@ impl<'a, L: Outside> Fields<'a, L> {
         alloc: Global,
         tries: &mut Tries,
     ) -> Result<(Fields<'a, L>, X), Refused<E, L>>
-        ensures next { ReadsNext E.is_memory R.takes_memory R.heads (λ x. (next_of x.0, R.view x.1)) (λ x. outer_of x.0) (λ x. plain_in x.0) (R.plan reader.now) R.tight (plain_in self.now) L.adds (next_of self.now) (outer_of self.now) tries.old tries.new result }
-        ensures shallow { R.is_deep reader.now ≡ false → IfOk result (λ x. tries.new + 8 + 8 * R.unread (R.view x.1) + 8 * length (next_of x.0) ≤ tries.old + 8 * length (next_of self.now)) }
+        ensures next { ReadsNext E.is_memory R.takes_memory R.heads (λ x. (next_of x.0, R.view x.1)) (λ x. outer_of x.0) (λ x. plain_in x.0)
+            (R.plan reader.now) R.tight (plain_in self.now) L.adds (next_of self.now) (outer_of self.now) tries.old tries.new result }
+        ensures shallow { R.is_deep reader.now ≡ false
+            → IfOk result (λ x. tries.new + 8 + 8 * R.unread (R.view x.1) + 8 * length (next_of x.0) ≤ tries.old + 8 * length (next_of self.now)) }
     {
         match reader.read_at(alloc, tries, &self.place) {
             Ok((value, plain)) => Ok((self.behind(tries, plain), value)),
@@ -155,7 +161,8 @@ impl<'a, L: Outside> Fields<'a, L> {
         alloc: Global,
         tries: &mut Tries,
     ) -> Result<(Fields<'a, L>, Option<X>), Refused<E, L>>
-        ensures { ReadsSoft E.is_memory R.form (R.own_tag reader.now) R.heads (λ x. (next_of x.0, option_view R.view x.1)) (λ x. outer_of x.0) (λ x. plain_in x.0) (R.plan reader.now) R.tight (plain_in self.now) L.adds (next_of self.now) (outer_of self.now) tries.old tries.new result }
+        ensures { ReadsSoft E.is_memory R.form (R.own_tag reader.now) R.heads (λ x. (next_of x.0, option_view R.view x.1)) (λ x. outer_of x.0)
+            (λ x. plain_in x.0) (R.plan reader.now) R.tight (plain_in self.now) L.adds (next_of self.now) (outer_of self.now) tries.old tries.new result }
     {
         match reader.read_at(alloc, tries, &self.place) {
             Ok((value, plain)) => Ok((self.behind(tries, plain), Some(value))),
@@ -172,7 +179,8 @@ impl<'a, L: Outside> Fields<'a, L> {
     #[inline(always)]
     #[tactic(auto, using(crate::proofs::Marking::marks_of_readers))]
     pub fn oid(&self, tries: &mut Tries) -> Result<(Fields<'a, L>, Oid<'a>), Refused<BerError, L>>
-        ensures { StepsLeaf (λ x. (next_of x.0, oid_bytes x.1)) (λ x. outer_of x.0) (λ x. plain_in x.0) oid (plain_in self.now) L.adds (next_of self.now) (outer_of self.now) tries.old tries.new result }
+        ensures { StepsLeaf (λ x. (next_of x.0, oid_bytes x.1)) (λ x. outer_of x.0) (λ x. plain_in x.0) oid (plain_in self.now) L.adds (next_of self.now)
+            (outer_of self.now) tries.old tries.new result }
     {
         let value = self.place.oid()?;
         Ok((self.behind(tries, true), value))
@@ -185,7 +193,8 @@ impl<'a, L: Outside> Fields<'a, L> {
         &self,
         tries: &mut Tries,
     ) -> Result<(Fields<'a, L>, &'a [u8]), Refused<BerError, L>>
-        ensures { StepsLeaf (λ x. (next_of x.0, x.1.now)) (λ x. outer_of x.0) (λ x. plain_in x.0) octets (plain_in self.now) L.adds (next_of self.now) (outer_of self.now) tries.old tries.new result }
+        ensures { StepsLeaf (λ x. (next_of x.0, x.1.now)) (λ x. outer_of x.0) (λ x. plain_in x.0) octets (plain_in self.now) L.adds (next_of self.now)
+            (outer_of self.now) tries.old tries.new result }
     {
         let value = self.place.octets()?;
         Ok((self.behind(tries, true), value))
@@ -195,7 +204,8 @@ impl<'a, L: Outside> Fields<'a, L> {
     #[inline(always)]
     #[tactic(auto, using(crate::proofs::Marking::marks_of_readers))]
     pub fn u32(&self, tries: &mut Tries) -> Result<(Fields<'a, L>, u32), Refused<BerError, L>>
-        ensures { StepsLeaf (λ x. (next_of x.0, x.1)) (λ x. outer_of x.0) (λ x. plain_in x.0) u32 (plain_in self.now) L.adds (next_of self.now) (outer_of self.now) tries.old tries.new result }
+        ensures { StepsLeaf (λ x. (next_of x.0, x.1)) (λ x. outer_of x.0) (λ x. plain_in x.0) u32 (plain_in self.now) L.adds (next_of self.now)
+            (outer_of self.now) tries.old tries.new result }
     {
         let value = self.place.u32()?;
         Ok((self.behind(tries, true), value))
@@ -208,7 +218,8 @@ impl<'a, L: Outside> Fields<'a, L> {
         &self,
         tries: &mut Tries,
     ) -> Result<(Fields<'a, L>, Integer<'a>), Refused<BerError, L>>
-        ensures { StepsLeaf (λ x. (next_of x.0, integer_bytes x.1)) (λ x. outer_of x.0) (λ x. plain_in x.0) integer (plain_in self.now) L.adds (next_of self.now) (outer_of self.now) tries.old tries.new result }
+        ensures { StepsLeaf (λ x. (next_of x.0, integer_bytes x.1)) (λ x. outer_of x.0) (λ x. plain_in x.0) integer (plain_in self.now) L.adds
+            (next_of self.now) (outer_of self.now) tries.old tries.new result }
     {
         let value = self.place.integer()?;
         Ok((self.behind(tries, true), value))
@@ -218,7 +229,8 @@ impl<'a, L: Outside> Fields<'a, L> {
     #[inline(always)]
     #[tactic(auto, using(crate::proofs::Marking::marks_of_readers))]
     pub fn soft_bool(&self, tries: &mut Tries) -> (Fields<'a, L>, Option<bool>)
-        ensures { StepsSoftLeaf (λ x. (next_of x.0, x.1)) (λ x. outer_of x.0) (λ x. plain_in x.0) bool (plain_in self.now) (next_of self.now) (outer_of self.now) tries.old tries.new result }
+        ensures { StepsSoftLeaf (λ x. (next_of x.0, x.1)) (λ x. outer_of x.0) (λ x. plain_in x.0) bool (plain_in self.now) (next_of self.now)
+            (outer_of self.now) tries.old tries.new result }
     {
         match self.place.bool() {
             Ok(value) => (self.behind(tries, true), Some(value)),
@@ -230,7 +242,8 @@ impl<'a, L: Outside> Fields<'a, L> {
     #[inline(always)]
     #[tactic(auto, using(crate::proofs::Marking::marks_of_readers))]
     pub fn soft_bool_loose(&self, tries: &mut Tries) -> (Fields<'a, L>, Option<bool>)
-        ensures { StepsSoftLeaf (λ x. (next_of x.0, x.1)) (λ x. outer_of x.0) (λ x. plain_in x.0) bool_loose (plain_in self.now) (next_of self.now) (outer_of self.now) tries.old tries.new result }
+        ensures { StepsSoftLeaf (λ x. (next_of x.0, x.1)) (λ x. outer_of x.0) (λ x. plain_in x.0) bool_loose (plain_in self.now) (next_of self.now)
+            (outer_of self.now) tries.old tries.new result }
     {
         match self.place.bool_marked() {
             Ok((value, plain)) => (self.behind(tries, plain), Some(value)),
@@ -242,7 +255,8 @@ impl<'a, L: Outside> Fields<'a, L> {
     #[inline(always)]
     #[tactic(auto, using(crate::proofs::Marking::marks_of_readers))]
     pub fn soft_u32(&self, tries: &mut Tries) -> (Fields<'a, L>, Option<u32>)
-        ensures { StepsSoftLeaf (λ x. (next_of x.0, x.1)) (λ x. outer_of x.0) (λ x. plain_in x.0) u32 (plain_in self.now) (next_of self.now) (outer_of self.now) tries.old tries.new result }
+        ensures { StepsSoftLeaf (λ x. (next_of x.0, x.1)) (λ x. outer_of x.0) (λ x. plain_in x.0) u32 (plain_in self.now) (next_of self.now)
+            (outer_of self.now) tries.old tries.new result }
     {
         match self.place.u32() {
             Ok(value) => (self.behind(tries, true), Some(value)),
@@ -254,7 +268,8 @@ impl<'a, L: Outside> Fields<'a, L> {
     #[inline(always)]
     #[tactic(auto, using(crate::proofs::Marking::marks_of_readers))]
     pub fn soft_implicit(&self, tries: &mut Tries, number: u32) -> (Fields<'a, L>, Option<&'a [u8]>)
-        ensures { StepsSoftLeaf (λ x. (next_of x.0, option_view (λ octets. octets.now) x.1)) (λ x. outer_of x.0) (λ x. plain_in x.0) (implicit number) (plain_in self.now) (next_of self.now) (outer_of self.now) tries.old tries.new result }
+        ensures { StepsSoftLeaf (λ x. (next_of x.0, option_view (λ octets. octets.now) x.1)) (λ x. outer_of x.0) (λ x. plain_in x.0) (implicit number)
+            (plain_in self.now) (next_of self.now) (outer_of self.now) tries.old tries.new result }
     {
         match self.place.implicit(number) {
             Ok(contents) => (self.behind(tries, true), Some(contents.bytes())),
@@ -266,7 +281,8 @@ impl<'a, L: Outside> Fields<'a, L> {
     #[inline(always)]
     #[tactic(auto, using(crate::proofs::Marking::marks_of_readers))]
     pub fn soft_implicit_u32(&self, tries: &mut Tries, number: u32) -> (Fields<'a, L>, Option<u32>)
-        ensures { StepsSoftLeaf (λ x. (next_of x.0, x.1)) (λ x. outer_of x.0) (λ x. plain_in x.0) (implicit_u32 number) (plain_in self.now) (next_of self.now) (outer_of self.now) tries.old tries.new result }
+        ensures { StepsSoftLeaf (λ x. (next_of x.0, x.1)) (λ x. outer_of x.0) (λ x. plain_in x.0) (implicit_u32 number) (plain_in self.now) (next_of self.now)
+            (outer_of self.now) tries.old tries.new result }
     {
         match self.place.implicit_u32(number) {
             Ok(value) => (self.behind(tries, true), Some(value)),

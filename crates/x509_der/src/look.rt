@@ -243,7 +243,8 @@ impl Packed {
 /// The header at the front, whatever its octets.
 #[inline(never)]
 fn packed_header(i: &[u8]) -> Packed
-    ensures found { 0 < result.size → (form : Form) → header_at form i.now ≡ wanted (λ s. (drop (result.size / 2) i.now, header_of s)) (λ s. s.fewest) form (Ok (seen_in result (slice_index i.now 0))) }
+    ensures found { 0 < result.size → (form : Form)
+        → header_at form i.now ≡ wanted (λ s. (drop (result.size / 2) i.now, header_of s)) (λ s. s.fewest) form (Ok (seen_in result (slice_index i.now 0))) }
     ensures within { result.size / 2 ≤ length i.now }
     ensures refused { result.size ≡ 0 → (form : Form) → header_at form i.now ≡ no_header (failure_in result) }
 {

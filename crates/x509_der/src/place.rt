@@ -33,7 +33,8 @@ pub struct Place<'a, L> {
     // Why none was found.
     pub(crate) why: HeaderError,
     ghost octets: { IsBytes bytes.now },
-    ghost looked: { (form : Form) → header_at form bytes.now ≡ wanted (λ s. (beyond.now, header_of s)) (λ s. s.fewest) form (found_or found (record { octet = octet; tag = tag; length = length; fewest = fewest }) why) },
+    ghost looked: { (form : Form)
+        → header_at form bytes.now ≡ wanted (λ s. (beyond.now, header_of s)) (λ s. s.fewest) form (found_or found (record { octet = octet; tag = tag; length = length; fewest = fewest }) why) },
     ghost first: { found ≡ true → slice_index bytes.now 0 ≡ octet },
 }
 
@@ -133,7 +134,9 @@ impl<'a, L: Outside> Place<'a, L> {
     #[inline(always)]
     #[tactic(auto, unfolding(crate::specs::Looks::behind, crate::specs::Looks::is_element, crate::specs::Reading::element_at))]
     pub(crate) fn behind_element(&self) -> Option<&'a [u8]>
-        ensures looked { IfSome result (λ _. (form : Form) → header_at form (at self.now) ≡ wanted (λ s. (self.now.beyond.now, header_of s)) (λ s. s.fewest) form (Ok (seen_at self.now))) }
+        ensures looked { IfSome result
+            (λ _. (form : Form)
+            → header_at form (at self.now) ≡ wanted (λ s. (self.now.beyond.now, header_of s)) (λ s. s.fewest) form (Ok (seen_at self.now))) }
         ensures first { IfSome result (λ _. slice_index (at self.now) 0 ≡ (seen_at self.now).octet) }
         ensures some { IfSome result (λ x. (is_element (at self.now) ≡ true) × (x.now ≡ behind (at self.now))) }
         ensures none { IsNone result → is_element (at self.now) ≡ false }

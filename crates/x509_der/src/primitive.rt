@@ -6,7 +6,8 @@ ghost use Rattle.x509_der.specs.Primitives.{as_refusal, bit_string, bits_of, is_
 ghost use Rattle.x509_der.specs.Integer.{integer_bytes};
 ghost use Rattle.x509_der.specs.Oid.{oid_bytes};
 ghost use Rattle.x509_der.specs.Unsigned.{unsigned_bytes};
-ghost use Rattle.x509_der.specs.Leaves.{contents, any, any_loose, bool, bool_loose, u32, unsigned, enumerated, integer, octets, oid, bits, utf8, ia5, explicit, implicit, implicit_bits, implicit_u32, sequence, set};
+ghost use Rattle.x509_der.specs.Leaves.{contents, any, any_loose, bool, bool_loose, u32, unsigned, enumerated, integer, octets, oid, bits, utf8, ia5, explicit};
+ghost use Rattle.x509_der.specs.Leaves.{implicit, implicit_bits, implicit_u32, sequence, set};
 ghost use Rattle.x509_der.specs.Place.{at, outside_of, bytes_in, outside_in};
 ghost use Rattle.x509_der.specs.Promises.{ReadsLeaf, ReadsContents, ReadsWindow};
 ghost use Rattle.x509_der.specs.Reading.{element_of, Gives, strict};
@@ -135,7 +136,8 @@ impl<'a, L: Outside> Place<'a, L> {
     #[tactic(auto, unfolding(crate::specs::Primitives::contents_at), using(crate::proofs::Octets::constructed_octet))]
     fn constructed(&self, tag: Tag) -> Result<&'a [u8], Refused<BerError, L>>
         requires { tag.0 < 31 }
-        ensures { ReadsContents strict (is_constructed tag.0) (λ x. x.now) (contents (is_constructed tag.0) strict) L.adds (at self.now) (outside_of self.now) result }
+        ensures { ReadsContents strict (is_constructed tag.0) (λ x. x.now) (contents (is_constructed tag.0) strict) L.adds (at self.now) (outside_of self.now)
+            result }
     {
         let any = self.judge(self.element(Form::Strict))?;
         if !is_constructed(self.octet(), tag) {
@@ -307,7 +309,8 @@ impl<'a, L: Outside> Place<'a, L> {
     #[inline(always)]
     #[tactic(auto, unfolding(crate::specs::Leaves::explicit, crate::specs::Primitives::contents_at))]
     pub fn explicit(&self, number: u32) -> Result<Window<'a, L>, Refused<BerError, L>>
-        ensures { ReadsWindow strict (is_explicit number) (λ x. bytes_in x) (λ x. outside_in x) (explicit number) L.adds (at self.now) (outside_of self.now) result }
+        ensures { ReadsWindow strict (is_explicit number) (λ x. bytes_in x) (λ x. outside_in x) (explicit number) L.adds (at self.now) (outside_of self.now)
+            result }
     {
         let any = self.judge(self.element(Form::Strict))?;
         if !is_context(any.header(), number) || !any.header().constructed {
@@ -320,7 +323,8 @@ impl<'a, L: Outside> Place<'a, L> {
     #[inline(always)]
     #[tactic(auto, unfolding(crate::specs::Leaves::implicit, crate::specs::Primitives::contents_at))]
     pub fn implicit(&self, number: u32) -> Result<Window<'a, L>, Refused<BerError, L>>
-        ensures { ReadsWindow strict (is_implicit number) (λ x. bytes_in x) (λ x. outside_in x) (implicit number) L.adds (at self.now) (outside_of self.now) result }
+        ensures { ReadsWindow strict (is_implicit number) (λ x. bytes_in x) (λ x. outside_in x) (implicit number) L.adds (at self.now) (outside_of self.now)
+            result }
     {
         let any = self.judge(self.element(Form::Strict))?;
         if !is_context(any.header(), number) {

@@ -64,9 +64,11 @@ pub trait Reader<'a, E: ReadError, X>: Sized {
     /// What is true of bytes that were refused.
     ghost refused: { Self → List ℕ → Refusal E → Type 0 } = { λ _ _ _. ⊤ };
 
-    ghost stands_where: { (reader : Self) (bytes : List ℕ) (value : Value) (rest : List ℕ) → IsBytes bytes → (plan reader).read bytes ≡ got value rest → stands reader bytes value rest };
+    ghost stands_where: { (reader : Self) (bytes : List ℕ) (value : Value) (rest : List ℕ) → IsBytes bytes
+        → (plan reader).read bytes ≡ got value rest → stands reader bytes value rest };
 
-    ghost refused_where: { (reader : Self) (bytes : List ℕ) (why : Refusal E) → tells_refusals reader → IsBytes bytes → (plan reader).read bytes ≡ Refusing why → refused reader bytes why };
+    ghost refused_where: { (reader : Self) (bytes : List ℕ) (why : Refusal E) → tells_refusals reader → IsBytes bytes
+        → (plan reader).read bytes ≡ Refusing why → refused reader bytes why };
 
     /// Reads the element at a place that was looked at, tells whether it stands plainly, and counts the headers that it tries
     /// beyond that look.
@@ -76,10 +78,12 @@ pub trait Reader<'a, E: ReadError, X>: Sized {
         tries: &mut Tries,
         place: &Place<'a, L>,
     ) -> Result<(X, bool), Refused<E, L>>
-        ensures reads { ReadsAt E.is_memory takes_memory form (own_tag self.now) heads view (plan self.now) L.adds (at place.now) (outside_of place.now) tries.old tries.new result }
+        ensures reads { ReadsAt E.is_memory takes_memory form (own_tag self.now) heads view (plan self.now) L.adds (at place.now) (outside_of place.now)
+            tries.old tries.new result }
         ensures tight { tight (at place.now) tries.old tries.new }
         // Eight for each byte that it looks at.
-        ensures shallow { is_deep self.now ≡ false → IfOk result (λ x. tries.new + 9 + 8 * unread (view x.0) + 8 * length (behind (at place.now)) ≤ tries.old + 8 * length (at place.now)) };
+        ensures shallow { is_deep self.now ≡ false
+            → IfOk result (λ x. tries.new + 9 + 8 * unread (view x.0) + 8 * length (behind (at place.now)) ≤ tries.old + 8 * length (at place.now)) };
 
     /// No refusal of the grammar is want of memory, so that is answered only where memory was refused.
     ghost never_memory: { (reader : Self) → NeverMemory E.is_memory (plan reader) };
@@ -99,7 +103,8 @@ pub trait Reader<'a, E: ReadError, X>: Sized {
         ensures refused { tells_refusals self.now → IfErr result (λ e. is_excused E.is_memory takes_memory e ≡ false → refused self.now i.now e) }
         ensures tries { TriesBounded form (own_tag self.now) heads (λ x. (x.0.now, view x.1)) i.now tries.old tries.new result }
         ensures tight { tight i.now (tried tries.old i.now) tries.new }
-        ensures shallow { is_deep self.now ≡ false → IfOk result (λ x. tries.new + 8 + 8 * unread (view x.1) + 8 * length x.0.now ≤ tries.old + 8 * length i.now) }
+        ensures shallow { is_deep self.now ≡ false
+            → IfOk result (λ x. tries.new + 8 + 8 * unread (view x.1) + 8 * length x.0.now ≤ tries.old + 8 * length i.now) }
     {
         let place = Place::look(tries, i);
         match self.read_at(alloc, tries, &place) {
@@ -121,7 +126,8 @@ pub trait Reader<'a, E: ReadError, X>: Sized {
         ensures refused { tells_refusals self.now → IfErr result (λ e. is_excused E.is_memory takes_memory e ≡ false → refused self.now i.now e) }
         ensures tries { TriesBounded form (own_tag self.now) heads (λ x. (x.0.now, view x.1)) i.now tries.old tries.new result }
         ensures tight { tight i.now (tried tries.old i.now) tries.new }
-        ensures shallow { is_deep self.now ≡ false → IfOk result (λ x. tries.new + 8 + 8 * unread (view x.1) + 8 * length x.0.now ≤ tries.old + 8 * length i.now) }
+        ensures shallow { is_deep self.now ≡ false
+            → IfOk result (λ x. tries.new + 8 + 8 * unread (view x.1) + 8 * length x.0.now ≤ tries.old + 8 * length i.now) }
     {
         // not by `read_marked`: each layer that a value passes through is a copy of it
         let front = Place::look(tries, i);

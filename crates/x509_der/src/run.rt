@@ -55,7 +55,8 @@ pub fn read_to_end<'a, E: ReadError, T: FromDer<'a, E> + Drop, L: Outside>(
     tries: &mut Tries,
     i: &Window<'a, L>,
 ) -> Result<(Sequence<T>, bool), Refused<E, L>>
-    ensures { ReadsList E.is_memory T.form T.own_tag T.heads (λ x. ([], map T.view x.0)) (λ x. x.1) (to_end (ended_early E.of_list) (run T.plan)) L.adds (bytes_in i.now) (outside_in i.now) tries.old tries.new result }
+    ensures { ReadsList E.is_memory T.form T.own_tag T.heads (λ x. ([], map T.view x.0)) (λ x. x.1) (to_end (ended_early E.of_list) (run T.plan)) L.adds
+        (bytes_in i.now) (outside_in i.now) tries.old tries.new result }
 {
     let (rest, members, plain) = match read_run(alloc, tries, i.bytes) {
         Ok(read) => read,
@@ -80,7 +81,8 @@ pub fn read_run1<'a, E: ReadError, T: FromDer<'a, E> + Drop, L: Outside>(
     tries: &mut Tries,
     i: &Window<'a, L>,
 ) -> Result<(&'a [u8], Sequence<T>, bool), Refused<E, L>>
-    ensures { ReadsList E.is_memory T.form T.own_tag T.heads (λ x. (x.0.now, map T.view x.1)) (λ x. x.2) (run1 (empty_run E.of_list) T.plan) L.adds (bytes_in i.now) (outside_in i.now) tries.old tries.new result }
+    ensures { ReadsList E.is_memory T.form T.own_tag T.heads (λ x. (x.0.now, map T.view x.1)) (λ x. x.2) (run1 (empty_run E.of_list) T.plan) L.adds
+        (bytes_in i.now) (outside_in i.now) tries.old tries.new result }
 {
     let (rest, members, plain) = match read_run(alloc, tries, i.bytes) {
         Ok(read) => read,

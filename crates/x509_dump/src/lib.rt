@@ -11,5 +11,5 @@ mod walk;
 
 pub use line::{DumpLine, What};
 pub use lines::DumpLines;
-pub use text::push_line;
+pub use text::{push_called, push_cut, push_line, push_octets, push_tag, push_value};
 pub use walk::dump;

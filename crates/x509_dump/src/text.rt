@@ -4,7 +4,8 @@ ghost use Rattle.std.specs.Prelude.{◌≡◌, ◌++◌, [], OnOk, codes, drop, 
 ghost use Rattle.std.specs.List.{list_all};
 ghost use Rattle.x509_der.specs.Hex.{hex_text};
 ghost use Rattle.x509_dump.specs.Elements.{line_of};
-ghost use Rattle.x509_dump.specs.Texts.{called_text, cells, columns, cut_text, element_text, form_text, holds_text, identifier_text, indent, is_identifier, is_printable, line_text, may_be_text, octets_text, raw_text, refused_text};
+ghost use Rattle.x509_dump.specs.Texts.{called_text, cells, columns, cut_text, element_text, form_text, holds_text, identifier_text, indent, is_identifier};
+ghost use Rattle.x509_dump.specs.Texts.{is_printable, line_text, may_be_text, octets_text, raw_text, refused_text};
 ghost use Rattle.x509_dump.specs.Texts.{tag_text, text_in, truth_word, universal_word, value_shown, value_text};
 ghost use Rattle.x509_paths.specs.Cursors.{called_of};
 ghost use Rattle.x509_report_lines.specs.Escape.{NoControls, escaped};
@@ -61,8 +62,12 @@ fn universal_word(number: u32) -> Option<&'static str>
     }
 }
 
-/// Adds the class and the number of a tag, in words where it is a universal type.
-fn push_tag(text: &mut String, header: &Header) -> Result<(), AllocError>
+/// Adds the class and the number of a tag, or the name of a universal type (X.680, section 8.4) as `openssl asn1parse` writes it.
+///
+/// # Errors
+///
+/// `AllocError`.
+pub fn push_tag(text: &mut String, header: &Header) -> Result<(), AllocError>
     ensures { OnOk result (string_bytes text.new ≡ string_bytes text.old ++ tag_text header.now) }
 {
     let number = header.tag.0;
@@ -77,8 +82,12 @@ fn push_tag(text: &mut String, header: &Header) -> Result<(), AllocError>
     }
 }
 
-/// Adds what an element is called, behind a space.
-fn push_called(text: &mut String, called: &Called) -> Result<(), AllocError>
+/// Adds what an element is called, behind a space: the name of its field, and its number in a list.
+///
+/// # Errors
+///
+/// `AllocError`.
+pub fn push_called(text: &mut String, called: &Called) -> Result<(), AllocError>
     ensures { OnOk result (string_bytes text.new ≡ string_bytes text.old ++ called_text (called_of called.now)) }
 {
     let name = called.name;
@@ -121,8 +130,12 @@ fn push_hex(text: &mut String, bytes: &[u8]) -> Result<(), AllocError>
     write!(text, "{pairs}")
 }
 
-/// Adds octets in hex, of many the first.
-fn push_octets(text: &mut String, octets: &[u8]) -> Result<(), AllocError>
+/// Adds octets in hex, of more than 32 the first 32 and two dots.
+///
+/// # Errors
+///
+/// `AllocError`.
+pub fn push_octets(text: &mut String, octets: &[u8]) -> Result<(), AllocError>
     ensures { OnOk result (string_bytes text.new ≡ string_bytes text.old ++ octets_text octets.now) }
 {
     if octets.len() > SHOWN {
@@ -226,8 +239,13 @@ fn push_shown(text: &mut String, header: &Header, contents: &[u8]) -> Result<(),
     }
 }
 
-/// Adds the value of an element behind a colon, where the line holds an octet of it.
-fn push_value(text: &mut String, header: &Header, contents: &[u8]) -> Result<(), AllocError>
+/// Adds the value of an element behind a colon, where the line holds an octet of it: an identifier with its name, a truth value, a text in
+/// quotes as it stands, and all else in hex.
+///
+/// # Errors
+///
+/// `AllocError`.
+pub fn push_value(text: &mut String, header: &Header, contents: &[u8]) -> Result<(), AllocError>
     ensures { OnOk result (string_bytes text.new ≡ string_bytes text.old ++ value_text header.now contents.now) }
 {
     if contents.is_empty() {
@@ -237,8 +255,12 @@ fn push_value(text: &mut String, header: &Header, contents: &[u8]) -> Result<(),
     push_shown(text, header, contents)
 }
 
-/// Adds how many octets of the contents are there, where some are not.
-fn push_cut(text: &mut String, header: &Header, there: usize) -> Result<(), AllocError>
+/// Adds how many octets of the contents are there, where the header announces more.
+///
+/// # Errors
+///
+/// `AllocError`.
+pub fn push_cut(text: &mut String, header: &Header, there: usize) -> Result<(), AllocError>
     ensures { OnOk result (string_bytes text.new ≡ string_bytes text.old ++ cut_text header.now there) }
 {
     if there < header.length as usize {

@@ -90,7 +90,8 @@ impl<'a> DumpLines<'a> {
     /// The line of the element at the front of what is left of the innermost element.
     fn enter(&mut self, front: &Front) -> Result<DumpLine<'a>, AllocError>
         requires some { self.old.at < self.old.innermost.end }
-        requires front { front_at (standing_of self.old.innermost.cursor) (window self.old.octets.now self.old.at self.old.innermost.end) ≡ Ok (front_of front.now) }
+        requires front { front_at (standing_of self.old.innermost.cursor) (window self.old.octets.now self.old.at self.old.innermost.end)
+            ≡ Ok (front_of front.now) }
         requires own { 0 < front.now.own }
         requires within { front.now.own ≤ front.now.size + front.now.there }
         requires whole { front.now.size + front.now.there ≤ self.old.innermost.end - self.old.at }

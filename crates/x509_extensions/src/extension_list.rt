@@ -33,7 +33,8 @@ impl X509ExtensionParser {
         ensures marks { IfOk result (λ x. x.2 ≡ (extensions self.now.deep_parse_extensions).marks i.now) }
         ensures reads { Answers is_x509_memory true (λ x. (x.0.now, map extension_of x.1)) result ((extensions self.now.deep_parse_extensions).read i.now) }
         ensures tries { TriesBounded strict (is_constructed 16) extensions_heads (λ x. (x.0.now, map extension_of x.1)) i.now tries.old tries.new result }
-        ensures shallow { self.now.deep_parse_extensions ≡ false → IfOk result (λ x. tries.new + 8 + 8 * value_bytes (map extension_of x.1) + 8 * length x.0.now ≤ tries.old + 8 * length i.now) }
+        ensures shallow { self.now.deep_parse_extensions ≡ false
+            → IfOk result (λ x. tries.new + 8 + 8 * value_bytes (map extension_of x.1) + 8 * length x.0.now ≤ tries.old + 8 * length i.now) }
     {
         let place = Place::look(tries, i);
         let (list, plain) = self.list_at(alloc, tries, &place)?;
@@ -49,8 +50,11 @@ impl X509ExtensionParser {
         tries: &mut Tries,
         place: &Place<'a, L>,
     ) -> Result<(Sequence<X509Extension<'a>>, bool), Refused<X509Error, L>>
-        ensures reads { ReadsAt is_x509_memory true strict (is_constructed 16) extensions_heads (λ x. map extension_of x) (extensions self.now.deep_parse_extensions) L.adds (at place.now) (outside_of place.now) tries.old tries.new result }
-        ensures shallow { self.now.deep_parse_extensions ≡ false → IfOk result (λ x. tries.new + 9 + 8 * value_bytes (map extension_of x.0) + 8 * length (behind (at place.now)) ≤ tries.old + 8 * length (at place.now)) }
+        ensures reads { ReadsAt is_x509_memory true strict (is_constructed 16) extensions_heads (λ x. map extension_of x)
+            (extensions self.now.deep_parse_extensions) L.adds (at place.now) (outside_of place.now) tries.old tries.new result }
+        ensures shallow { self.now.deep_parse_extensions ≡ false
+            → IfOk result
+            (λ x. tries.new + 9 + 8 * value_bytes (map extension_of x.0) + 8 * length (behind (at place.now)) ≤ tries.old + 8 * length (at place.now)) }
     {
         let contents = sequence_at(place)?;
         self.read_to_end(alloc, tries, &contents)
@@ -74,12 +78,14 @@ impl X509ExtensionParser {
         number: u32,
         i: &'a [u8],
     ) -> Result<(Sequence<X509Extension<'a>>, bool), Err<X509Error>>
-        ensures reads { Answers is_x509_memory true (λ x. ([], map extension_of x.0)) result ((wrapped_extensions number self.now.deep_parse_extensions).read i.now) }
+        ensures reads { Answers is_x509_memory true (λ x. ([], map extension_of x.0)) result
+            ((wrapped_extensions number self.now.deep_parse_extensions).read i.now) }
         ensures marks { IfOk result (λ x. x.1 ≡ (wrapped_extensions number self.now.deep_parse_extensions).marks i.now) }
         ensures grows { tries.old ≤ tries.new }
         ensures count { tries.new ≤ tries.old + 8 * length i.now }
         ensures least { IfOk result (λ x. AddsAtLeast (wrapped_heads (map extension_of x.0)) tries.old tries.new) }
-        ensures shallow { self.now.deep_parse_extensions ≡ false → IfOk result (λ x. tries.new + 8 * value_bytes (map extension_of x.0) ≤ tries.old + 8 * length i.now) }
+        ensures shallow { self.now.deep_parse_extensions ≡ false
+            → IfOk result (λ x. tries.new + 8 * value_bytes (map extension_of x.0) ≤ tries.old + 8 * length i.now) }
     {
         let place = Place::look(tries, i);
         match self.read_wrapped_at(alloc, tries, number, &place) {
@@ -98,14 +104,16 @@ impl X509ExtensionParser {
         number: u32,
         place: &Place<'a, L>,
     ) -> Result<(Sequence<X509Extension<'a>>, bool), Refused<X509Error, L>>
-        ensures reads { AnswersAt is_x509_memory true (λ x. ([], map extension_of x.0)) (wrapped_extensions number self.now.deep_parse_extensions) L.adds (at place.now) (outside_of place.now) result }
+        ensures reads { AnswersAt is_x509_memory true (λ x. ([], map extension_of x.0)) (wrapped_extensions number self.now.deep_parse_extensions) L.adds
+            (at place.now) (outside_of place.now) result }
         ensures marks { IfOk result (λ x. x.1 ≡ (wrapped_extensions number self.now.deep_parse_extensions).marks (at place.now)) }
         ensures grows { tries.old ≤ tries.new }
         ensures count { tries.new ≤ tries.old + (8 * length (at place.now) - 8) }
         // A header of another number is tried no more.
         ensures foreign { IsErr ((wrapper_header number).read (at place.now)) → tries.new ≤ tries.old }
         ensures least { IfOk result (λ x. AddsAtLeast (wrapped_heads (map extension_of x.0) - min 1 (length (at place.now))) tries.old tries.new) }
-        ensures shallow { self.now.deep_parse_extensions ≡ false → IfOk result (λ x. tries.new + 8 * value_bytes (map extension_of x.0) + min 1 (length (at place.now)) ≤ tries.old + 8 * length (at place.now)) }
+        ensures shallow { self.now.deep_parse_extensions ≡ false
+            → IfOk result (λ x. tries.new + 8 * value_bytes (map extension_of x.0) + min 1 (length (at place.now)) ≤ tries.old + 8 * length (at place.now)) }
     {
         if place.bytes().is_empty() {
             return Ok((Sequence::new(alloc), true));
@@ -131,11 +139,14 @@ impl X509ExtensionParser {
         contents: &Window<'a, L>,
     ) -> Result<(Sequence<X509Extension<'a>>, bool), Refused<X509Error, L>>
         ensures marks { IfOk result (λ x. x.1 ≡ marks_of_members (extension self.now.deep_parse_extensions) (bytes_in contents.now)) }
-        ensures reads { AnswersAt is_x509_memory true (λ x. ([], map extension_of x.0)) (to_end (ended_early x509.NomError) (run (extension self.now.deep_parse_extensions))) L.adds (bytes_in contents.now) (outside_in contents.now) result }
+        ensures reads { AnswersAt is_x509_memory true (λ x. ([], map extension_of x.0))
+            (to_end (ended_early x509.NomError) (run (extension self.now.deep_parse_extensions))) L.adds (bytes_in contents.now) (outside_in contents.now)
+            result }
         ensures grows { tries.old ≤ tries.new }
         ensures count { tries.new ≤ tries.old + 8 * length (bytes_in contents.now) }
         ensures least { IfOk result (λ x. AddsAtLeast (sum_by extension_heads (map extension_of x.0)) tries.old tries.new) }
-        ensures shallow { self.now.deep_parse_extensions ≡ false → IfOk result (λ x. tries.new + 8 * value_bytes (map extension_of x.0) ≤ tries.old + 8 * length (bytes_in contents.now)) }
+        ensures shallow { self.now.deep_parse_extensions ≡ false
+            → IfOk result (λ x. tries.new + 8 * value_bytes (map extension_of x.0) ≤ tries.old + 8 * length (bytes_in contents.now)) }
     {
         let i = contents.bytes();
         let mut list = match Vec::with_capacity(alloc, i.len().div_ceil(32).min(8)) {

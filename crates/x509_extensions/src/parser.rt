@@ -9,7 +9,8 @@ ghost use Rattle.x509_der.specs.Leaves.{sequence as leaf_sequence};
 ghost use Rattle.x509_der.specs.Reading.{AddsAtLeast, strict};
 ghost use Rattle.x509_fields.specs.Errors.{is_x509_memory};
 ghost use Rattle.x509_extensions.specs.Adding.{Adds};
-ghost use Rattle.x509_extensions.specs.Extension.{Extension, extension_of, extension_heads, extension_laws, envelope_of, envelope_fields, envelope, extension, with_parsed};
+ghost use Rattle.x509_extensions.specs.Extension.{Extension, extension_of, extension_heads, extension_laws, envelope_of, envelope_fields, envelope, extension};
+ghost use Rattle.x509_extensions.specs.Extension.{with_parsed};
 ghost use Rattle.x509_extensions.specs.Parsed.{parsed_of};
 
 use crate::extension::X509Extension;
@@ -68,8 +69,10 @@ impl X509ExtensionParser {
         place: &Place<'a, L>,
         list: &mut Sequence<X509Extension<'a>>,
     ) -> Result<bool, Err<X509Error>>
-        ensures added { IfOk result (λ plain. Adds self.now.deep_parse_extensions (at place.now) (map extension_of list.old) (map extension_of list.new) plain tries.old tries.new) }
-        ensures refused { IfErr result (λ e. cond (is_excused is_x509_memory true e) ⊤ ((extension self.now.deep_parse_extensions).read (at place.now) ≡ Refusing e)) }
+        ensures added { IfOk result
+            (λ plain. Adds self.now.deep_parse_extensions (at place.now) (map extension_of list.old) (map extension_of list.new) plain tries.old tries.new) }
+        ensures refused { IfErr result
+            (λ e. cond (is_excused is_x509_memory true e) ⊤ ((extension self.now.deep_parse_extensions).read (at place.now) ≡ Refusing e)) }
         ensures grows { tries.old ≤ tries.new }
         ensures few { tries.new ≤ tries.old + (8 * length (at place.now) - 8) }
     {

@@ -2,7 +2,11 @@
 
 ghost use Rattle.std.specs.Prelude.{◌≡◌, ℕ, List, None};
 ghost use Rattle.x509_extensions.specs.Kinds.{kind_of};
-ghost use Rattle.x509_extensions.specs.Parsed.{IsRow, IsWholeRow, Unsupported, parsed_value, SubjectKeyIdentifier, KeyUsage, SubjectAlternativeName, IssuerAlternativeName, BasicConstraints, CRLNumber, ReasonCode, InvalidityDate, IssuingDistributionPoint, NameConstraints, CRLDistributionPoints, CertificatePolicies, PolicyMappings, AuthorityKeyIdentifier, PolicyConstraints, ExtendedKeyUsage, InhibitAnyPolicy, AuthorityInfoAccess, SubjectInfoAccess, SCT, NSCertType, NsCertComment};
+ghost use Rattle.x509_extensions.specs.Parsed.{IsRow, IsWholeRow, Unsupported, parsed_value, SubjectKeyIdentifier, KeyUsage, SubjectAlternativeName};
+ghost use Rattle.x509_extensions.specs.Parsed.{IssuerAlternativeName, BasicConstraints, CRLNumber, ReasonCode, InvalidityDate, IssuingDistributionPoint};
+ghost use Rattle.x509_extensions.specs.Parsed.{NameConstraints, CRLDistributionPoints, CertificatePolicies, PolicyMappings, AuthorityKeyIdentifier};
+ghost use Rattle.x509_extensions.specs.Parsed.{PolicyConstraints, ExtendedKeyUsage, InhibitAnyPolicy, AuthorityInfoAccess, SubjectInfoAccess, SCT, NSCertType};
+ghost use Rattle.x509_extensions.specs.Parsed.{NsCertComment};
 ghost use Rattle.x509_names.specs.Objects as objects;
 ghost use Rattle.x509_fields.specs.Fields.{lifted};
 ghost use Rattle.x509_general_names.specs.KeyIdentifier.{key_identifier};

@@ -33,7 +33,8 @@ pub fn read_serial<'a, L: Outside>(
     tries: &mut Tries,
     fields: &Fields<'a, L>,
 ) -> Result<(Fields<'a, L>, &'a [u8]), Refused<X509Error, L>>
-    ensures { StepsLeaf (λ x. (next_of x.0, x.1.now)) (λ x. outer_of x.0) (λ x. plain_in x.0) serial (plain_in fields.now) L.adds (next_of fields.now) (outer_of fields.now) tries.old tries.new result }
+    ensures { StepsLeaf (λ x. (next_of x.0, x.1.now)) (λ x. outer_of x.0) (λ x. plain_in x.0) serial (plain_in fields.now) L.adds (next_of fields.now)
+        (outer_of fields.now) tries.old tries.new result }
 {
     let (contents, plain) = serial_at(&fields.place)?;
     Ok((fields.behind(tries, plain), contents))

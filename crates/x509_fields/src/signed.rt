@@ -45,15 +45,29 @@ pub fn read_signed<'a, T: Drop, R: Reader<'a, X509Error, T>, L: Outside>(
     tries: &mut Tries,
     place: &Place<'a, L>,
 ) -> Result<(Signed<'a, T>, bool), Refused<X509Error, L>>
-    ensures reads { ReadsAt is_x509_memory R.takes_memory strict (is_constructed 16) (signed_heads R.heads) (signed_of R.view) (signed (R.plan part.now)) L.adds (at place.now) (outside_of place.now) tries.old tries.new result }
-    ensures shallow { R.is_deep part.now ≡ false → IfOk result (λ x. tries.new + 9 + 8 * R.unread (R.view x.0.tbs) + 8 * length (behind (at place.now)) ≤ tries.old + 8 * length (at place.now)) }
+    ensures reads { ReadsAt is_x509_memory R.takes_memory strict (is_constructed 16) (signed_heads R.heads) (signed_of R.view) (signed (R.plan part.now))
+        L.adds (at place.now) (outside_of place.now) tries.old tries.new result }
+    ensures shallow { R.is_deep part.now ≡ false
+        → IfOk result (λ x. tries.new + 9 + 8 * R.unread (R.view x.0.tbs) + 8 * length (behind (at place.now)) ≤ tries.old + 8 * length (at place.now)) }
 {
     let contents = sequence_at(place)?;
     let first = Fields::of(tries, &contents);
     let (tbs, tbs_plain) = ok!(part.read_at(alloc, tries, &first.place));
     let fields = first.behind(tries, tbs_plain);
-    let (fields, signature_algorithm) = fields.field(alloc, tries)?;
-    let signature_value = ok!(signature_value_at(&fields.place));
+    let (fields, signature_algorithm) = match fields.field(alloc, tries) {
+        Ok((fields, signature_algorithm)) => (fields, signature_algorithm),
+        Err(e) => {
+            let_go(tbs);
+            return Err(e);
+        }
+    };
+    let signature_value = match signature_value_at(&fields.place) {
+        Ok(value) => value,
+        Err(e) => {
+            let_go(tbs);
+            return Err(e);
+        }
+    };
     let bytes = place.bytes();
     let signed = Signed {
         tbs,
@@ -63,6 +77,11 @@ pub fn read_signed<'a, T: Drop, R: Reader<'a, X509Error, T>, L: Outside>(
     };
     Ok((signed, fields.ends_here()))
 }
+
+// Lets a part go at a place of its own. Else the part's own place would have an address, and what is accepted would be copied from
+// there at each layer above.
+#[inline(always)]
+fn let_go<T: Drop>(_part: T) {}
 
 /// The bits of a signature (RFC 5280, section 4.1.1.3).
 ///

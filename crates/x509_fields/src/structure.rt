@@ -15,7 +15,8 @@ use x509_der::{Outside, Place, Refused, Window};
 pub fn sequence_at<'a, L: Outside>(
     place: &Place<'a, L>,
 ) -> Result<Window<'a, L>, Refused<X509Error, L>>
-    ensures { ReadsWindow strict (is_constructed 16) (λ x. bytes_in x) (λ x. outside_in x) (lifted sequence) L.adds (at place.now) (outside_of place.now) result }
+    ensures { ReadsWindow strict (is_constructed 16) (λ x. bytes_in x) (λ x. outside_in x) (lifted sequence) L.adds (at place.now) (outside_of place.now)
+        result }
 {
     match place.sequence() {
         Ok(contents) => Ok(contents),

@@ -128,7 +128,8 @@ fn names_at<'a, L: Outside>(
     tries: &mut Tries,
     place: &Place<'a, L>,
 ) -> Result<(Sequence<GeneralName<'a>>, bool), Refused<X509Error, L>>
-    ensures { ReadsAt is_x509_memory true strict (is_constructed 16) general_names_heads (λ x. map general_name_of x) general_names L.adds (at place.now) (outside_of place.now) tries.old tries.new result }
+    ensures { ReadsAt is_x509_memory true strict (is_constructed 16) general_names_heads (λ x. map general_name_of x) general_names L.adds (at place.now)
+        (outside_of place.now) tries.old tries.new result }
 {
     let contents = sequence_at(place)?;
     let (rest, names, plain) = place.judge(read_run(alloc, tries, contents.bytes()))?;

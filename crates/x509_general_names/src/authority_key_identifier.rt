@@ -3,7 +3,8 @@
 ghost use Rattle.std.specs.Prelude.{true};
 ghost use Rattle.x509_der.specs.Primitives.{is_constructed};
 ghost use Rattle.x509_der.specs.Reading.{strict};
-ghost use Rattle.x509_general_names.specs.AuthorityKeyIdentifier.{AuthorityKeyIdentifierValue, authority_key_identifier_of, authority_key_identifier, authority_key_identifier_heads, authority_key_identifier_laws};
+ghost use Rattle.x509_general_names.specs.AuthorityKeyIdentifier.{AuthorityKeyIdentifierValue, authority_key_identifier_of, authority_key_identifier};
+ghost use Rattle.x509_general_names.specs.AuthorityKeyIdentifier.{authority_key_identifier_heads, authority_key_identifier_laws};
 
 use crate::general_name::GeneralName;
 use crate::implicit_names::ImplicitNames;

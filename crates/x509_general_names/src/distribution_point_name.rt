@@ -5,7 +5,8 @@ ghost use Rattle.x509_der.specs.Place.{at, outside_of, bytes_in, outside_in};
 ghost use Rattle.x509_der.specs.Primitives.{is_explicit};
 ghost use Rattle.x509_der.specs.Reading.{AddsAtLeast, strict};
 ghost use Rattle.x509_fields.specs.Errors.{is_x509_memory};
-ghost use Rattle.x509_general_names.specs.DistributionPointName.{PointName, point_name_of, choice_header, is_choice, closes, point_name, point_name_heads, distribution_point_name, distribution_point_name_heads, distribution_point_name_laws};
+ghost use Rattle.x509_general_names.specs.DistributionPointName.{PointName, point_name_of, choice_header, is_choice, closes, point_name, point_name_heads};
+ghost use Rattle.x509_general_names.specs.DistributionPointName.{distribution_point_name, distribution_point_name_heads, distribution_point_name_laws};
 ghost use Rattle.x509_der.specs.Promises.{AnswersAt, GivesAt};
 
 use crate::general_name::GeneralName;
@@ -92,7 +93,8 @@ fn name_in<'a, L: Outside>(
     tries: &mut Tries,
     contents: &Window<'a, L>,
 ) -> Result<(&'a [u8], DistributionPointName<'a>, bool), Refused<X509Error, L>>
-    ensures reads { AnswersAt is_x509_memory true (λ x. (x.0.now, point_name_of x.1)) point_name L.adds (bytes_in contents.now) (outside_in contents.now) result }
+    ensures reads { AnswersAt is_x509_memory true (λ x. (x.0.now, point_name_of x.1)) point_name L.adds (bytes_in contents.now) (outside_in contents.now)
+        result }
     ensures marks { IfOk result (λ x. x.2 ≡ point_name.marks (bytes_in contents.now)) }
     ensures grows { tries.old ≤ tries.new }
     ensures count { tries.new ≤ tries.old + 8 * length (bytes_in contents.now) }

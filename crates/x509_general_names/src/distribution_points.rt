@@ -3,7 +3,8 @@
 ghost use Rattle.std.specs.Prelude.{◌≡◌, List, true};
 ghost use Rattle.x509_der.specs.Primitives.{is_constructed};
 ghost use Rattle.x509_der.specs.Reading.{strict};
-ghost use Rattle.x509_general_names.specs.DistributionPoints.{Point, point_of, points_of, crl_distribution_point, crl_distribution_points, point_heads, points_heads, crl_distribution_point_laws, crl_distribution_points_laws};
+ghost use Rattle.x509_general_names.specs.DistributionPoints.{Point, point_of, points_of, crl_distribution_point, crl_distribution_points, point_heads};
+ghost use Rattle.x509_general_names.specs.DistributionPoints.{points_heads, crl_distribution_point_laws, crl_distribution_points_laws};
 
 use crate::distribution_point_name::DistributionPointName;
 use crate::general_name::GeneralName;

@@ -11,7 +11,9 @@ ghost use Rattle.x509_der.specs.Place.{at, outside_of};
 ghost use Rattle.x509_der.specs.Reading.{AddsAtLeast, element_of, strict};
 ghost use Rattle.x509_fields.specs.Errors.{is_x509_memory};
 ghost use Rattle.x509_general_names.specs.Addresses.{IsAddressIn};
-ghost use Rattle.x509_general_names.specs.GeneralName.{GeneralNameValue, general_name_of, general_name, general_name_heads, general_name_text, alternative, other_name, directory_name, alternative_in, name_inside, value_read, named, general_name_in, GivesName, context_element, hex_pairs, utf8_in};
+ghost use Rattle.x509_general_names.specs.GeneralName.{GeneralNameValue, general_name_of, general_name, general_name_heads, general_name_text, alternative};
+ghost use Rattle.x509_general_names.specs.GeneralName.{other_name, directory_name, alternative_in, name_inside, value_read, named, general_name_in, GivesName};
+ghost use Rattle.x509_general_names.specs.GeneralName.{context_element, hex_pairs, utf8_in};
 ghost use Rattle.x509_general_names.specs.GeneralNameLaws.{general_name_laws};
 
 use crate::addresses::ip_address;
@@ -216,7 +218,8 @@ fn plainly(name: Option<GeneralName<'_>>) -> Result<(Option<GeneralName<'_>>, bo
 // The identifier at the front of the contents, and what stands behind it.
 #[tactic(auto, unfolding(crate::specs::GeneralName::alternative), using(x509_der::proofs::Marking::marks_of_readers))]
 fn other_name<'a>(tries: &mut Tries, any: Any<'a>) -> Option<GeneralName<'a>>
-    ensures reads { value_read ((alternative other_name (element_of any.entry).header).read (element_of any.entry).contents) ≡ option_view general_name_of result }
+    ensures reads { value_read ((alternative other_name (element_of any.entry).header).read (element_of any.entry).contents)
+        ≡ option_view general_name_of result }
     ensures marks { reads_inside (alternative other_name (element_of any.entry).header) (element_of any.entry).contents ≡ is_some result }
     ensures grows { tries.old ≤ tries.new }
     ensures count { tries.new ≤ tries.old + 8 * length (element_of any.entry).contents }
@@ -246,7 +249,8 @@ fn directory_name<'a>(
     tries: &mut Tries,
     any: Any<'a>,
 ) -> Result<(Option<GeneralName<'a>>, bool), Err<X509Error>>
-    ensures reads { Answers is_x509_memory true (λ x. option_view general_name_of x.0) result (Ok (value_read ((alternative directory_name (element_of any.entry).header).read (element_of any.entry).contents))) }
+    ensures reads { Answers is_x509_memory true (λ x. option_view general_name_of x.0) result
+        (Ok (value_read ((alternative directory_name (element_of any.entry).header).read (element_of any.entry).contents))) }
     ensures marks { IfOk result (λ x. x.1 ≡ reads_inside (alternative directory_name (element_of any.entry).header) (element_of any.entry).contents) }
     ensures grows { tries.old ≤ tries.new }
     ensures count { tries.new ≤ tries.old + 8 * length (element_of any.entry).contents }

@@ -19,7 +19,8 @@ pub(crate) fn soft_bool<'a, L: Outside>(
     tries: &mut Tries,
     number: u32,
 ) -> (Fields<'a, L>, Option<bool>)
-    ensures { StepsSoftLeaf (λ x. (next_of x.0, x.1)) (λ x. outer_of x.0) (λ x. plain_in x.0) (lifted (implicit_bool number)) (plain_in fields.now) (next_of fields.now) (outer_of fields.now) tries.old tries.new result }
+    ensures { StepsSoftLeaf (λ x. (next_of x.0, x.1)) (λ x. outer_of x.0) (λ x. plain_in x.0) (lifted (implicit_bool number)) (plain_in fields.now)
+        (next_of fields.now) (outer_of fields.now) tries.old tries.new result }
 {
     match bool_at(&fields.place, number) {
         Ok(truth) => (fields.behind(tries, true), Some(truth)),

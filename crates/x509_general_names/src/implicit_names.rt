@@ -5,7 +5,8 @@ ghost use Rattle.x509_der.specs.Primitives.{is_context, is_implicit};
 ghost use Rattle.x509_der.specs.Reading.{strict};
 ghost use Rattle.x509_fields.specs.Errors.{is_x509_memory};
 ghost use Rattle.x509_general_names.specs.AlternativeNames.{general_names_heads};
-ghost use Rattle.x509_general_names.specs.ImplicitNames.{names_of, implicit_names, some_names, implicit_some_names, implicit_names_laws, implicit_some_names_laws};
+ghost use Rattle.x509_general_names.specs.ImplicitNames.{names_of, implicit_names, some_names, implicit_some_names, implicit_names_laws};
+ghost use Rattle.x509_general_names.specs.ImplicitNames.{implicit_some_names_laws};
 ghost use Rattle.x509_general_names.specs.GeneralName.{GeneralNameValue, general_name_heads};
 ghost use Rattle.x509_der.specs.Place.{bytes_in, outside_in};
 ghost use Rattle.x509_der.specs.Promises.{ReadsList};
@@ -114,7 +115,8 @@ pub(crate) fn some_names_in<'a, L: Outside>(
     tries: &mut Tries,
     contents: &Window<'a, L>,
 ) -> Result<(&'a [u8], Sequence<GeneralName<'a>>, bool), Refused<X509Error, L>>
-    ensures { ReadsList is_x509_memory strict (λ h. is_context h.class) general_name_heads (λ x. (x.0.now, names_of x.1)) (λ x. x.2) some_names L.adds (bytes_in contents.now) (outside_in contents.now) tries.old tries.new result }
+    ensures { ReadsList is_x509_memory strict (λ h. is_context h.class) general_name_heads (λ x. (x.0.now, names_of x.1)) (λ x. x.2) some_names L.adds
+        (bytes_in contents.now) (outside_in contents.now) tries.old tries.new result }
 {
     let (rest, names, plain) = match read_run(alloc, tries, contents.bytes()) {
         Ok(read) => read,

@@ -9,7 +9,9 @@ ghost use Rattle.x509_der.specs.declared.oid.Oid.{Oid as OidOf};
 ghost use Rattle.x509_fields.specs.Errors.{is_x509_memory};
 ghost use Rattle.x509_fields.specs.declared.error.X509Error.TheVariants.{OutOfMemory};
 ghost use Rattle.x509_fields.specs.Groups.{held, pointed};
-ghost use Rattle.x509_general_names.specs.InformationAccess.{Access, access_of, authority_accesses_of, subject_accesses_of, access_description, information_access, access_heads, information_access_heads, access_description_laws, information_access_laws, accesses_left, locations};
+ghost use Rattle.x509_general_names.specs.InformationAccess.{Access, access_of, authority_accesses_of, subject_accesses_of, access_description};
+ghost use Rattle.x509_general_names.specs.InformationAccess.{information_access, access_heads, information_access_heads, access_description_laws};
+ghost use Rattle.x509_general_names.specs.InformationAccess.{information_access_laws, accesses_left, locations};
 
 use crate::access_iter::AccessIter;
 use crate::general_name::GeneralName;
@@ -288,7 +290,8 @@ fn accesses_at<'a, L: Outside>(
     tries: &mut Tries,
     place: &Place<'a, L>,
 ) -> Result<(Sequence<AccessDescription<'a>>, bool), Refused<X509Error, L>>
-    ensures { ReadsAt is_x509_memory true strict (is_constructed 16) information_access_heads (λ x. map access_of x) information_access L.adds (at place.now) (outside_of place.now) tries.old tries.new result }
+    ensures { ReadsAt is_x509_memory true strict (is_constructed 16) information_access_heads (λ x. map access_of x) information_access L.adds (at place.now)
+        (outside_of place.now) tries.old tries.new result }
 {
     let contents = sequence_at(place)?;
     let (rest, accesses, plain) = place.judge(read_run(alloc, tries, contents.bytes()))?;

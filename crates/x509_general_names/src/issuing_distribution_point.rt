@@ -3,7 +3,8 @@
 ghost use Rattle.std.specs.Prelude.{true};
 ghost use Rattle.x509_der.specs.Primitives.{is_constructed};
 ghost use Rattle.x509_der.specs.Reading.{strict};
-ghost use Rattle.x509_general_names.specs.IssuingDistributionPoint.{IssuingPoint, issuing_point_of, issuing_distribution_point, issuing_point_heads, issuing_distribution_point_laws};
+ghost use Rattle.x509_general_names.specs.IssuingDistributionPoint.{IssuingPoint, issuing_point_of, issuing_distribution_point, issuing_point_heads};
+ghost use Rattle.x509_general_names.specs.IssuingDistributionPoint.{issuing_distribution_point_laws};
 
 use crate::distribution_point_name::DistributionPointName;
 use crate::implicit_bool::soft_bool;

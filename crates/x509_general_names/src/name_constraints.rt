@@ -4,7 +4,9 @@ ghost use Rattle.std.specs.Prelude.{List, true, ⊤};
 ghost use Rattle.x509_der.specs.Primitives.{is_constructed, is_explicit};
 ghost use Rattle.x509_der.specs.Reading.{strict};
 ghost use Rattle.x509_general_names.specs.GeneralName.{GeneralNameValue};
-ghost use Rattle.x509_general_names.specs.NameConstraints.{subtree_of, subtrees_of, Constraints, constraints_of, general_subtree, general_subtrees, name_constraints, subtree_heads, subtrees_heads, constraints_heads, general_subtree_laws, general_subtrees_laws, name_constraints_laws};
+ghost use Rattle.x509_general_names.specs.NameConstraints.{subtree_of, subtrees_of, Constraints, constraints_of, general_subtree, general_subtrees};
+ghost use Rattle.x509_general_names.specs.NameConstraints.{name_constraints, subtree_heads, subtrees_heads, constraints_heads, general_subtree_laws};
+ghost use Rattle.x509_general_names.specs.NameConstraints.{general_subtrees_laws, name_constraints_laws};
 
 use crate::general_name::GeneralName;
 use std::alloc::Global;

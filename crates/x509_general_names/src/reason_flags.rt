@@ -169,7 +169,8 @@ pub(crate) fn soft_reasons<'a, L: Outside>(
     tries: &mut Tries,
     number: u32,
 ) -> (Fields<'a, L>, Option<ReasonFlags>)
-    ensures reads { StepsSoftLeaf (λ x. (next_of x.0, option_view reason_flags_of x.1)) (λ x. outer_of x.0) (λ x. plain_in x.0) (implicit_reasons number) (plain_in fields.now) (next_of fields.now) (outer_of fields.now) tries.old tries.new result }
+    ensures reads { StepsSoftLeaf (λ x. (next_of x.0, option_view reason_flags_of x.1)) (λ x. outer_of x.0) (λ x. plain_in x.0) (implicit_reasons number)
+        (plain_in fields.now) (next_of fields.now) (outer_of fields.now) tries.old tries.new result }
     // No element of another tag is read.
     ensures foreign { IfSome result.1 (λ _. 0 < number → IsForeign strict (is_explicit 0) (next_of fields.now)) }
 {

@@ -81,7 +81,8 @@ pub(crate) fn rsa_key_at<'a, L: Outside>(
     tries: &mut Tries,
     place: &Place<'a, L>,
 ) -> Result<(RSAPublicKey<'a>, bool), Refused<X509Error, L>>
-    ensures { ReadsAt is_x509_memory false strict (is_constructed 16) rsa_key_heads rsa_key_of rsa_public_key L.adds (at place.now) (outside_of place.now) tries.old tries.new result }
+    ensures { ReadsAt is_x509_memory false strict (is_constructed 16) rsa_key_heads rsa_key_of rsa_public_key L.adds (at place.now) (outside_of place.now)
+        tries.old tries.new result }
 {
     let contents = named!(place.sequence(), X509Error::InvalidSPKI);
     let fields = Fields::of(tries, &contents);

@@ -7,8 +7,11 @@ ghost use Rattle.x509_der.specs.Oid.{oid_bytes};
 ghost use Rattle.x509_der.specs.Primitives.{is_constructed};
 ghost use Rattle.x509_der.specs.Promises.{OneTryEach};
 ghost use Rattle.x509_der.specs.Reading.{Gives, strict};
-ghost use Rattle.x509_names.specs.Names.{Attribute, attribute_of, attribute_heads, attribute, attribute_laws, relative_name_of, relative_name_heads, relative_name, relative_name_laws, Name, name_of, name_heads, name, name_laws, attributes_in, with_type, relative_left, attributes_left, matching_left, is_plain_string, string_in};
-ghost use Rattle.x509_names.specs.Objects.{common_name, country_name, locality_name, state_or_province_name, organization_name, organizational_unit, email_address};
+ghost use Rattle.x509_names.specs.Names.{Attribute, attribute_of, attribute_heads, attribute, attribute_laws, relative_name_of, relative_name_heads};
+ghost use Rattle.x509_names.specs.Names.{relative_name, relative_name_laws, Name, name_of, name_heads, name, name_laws, attributes_in, with_type};
+ghost use Rattle.x509_names.specs.Names.{relative_left, attributes_left, matching_left, is_plain_string, string_in};
+ghost use Rattle.x509_names.specs.Objects.{common_name, country_name, locality_name, state_or_province_name, organization_name, organizational_unit};
+ghost use Rattle.x509_names.specs.Objects.{email_address};
 
 use crate::name_iter::{AttributeByOid, AttributeIter, RdnIter};
 use crate::objects::{

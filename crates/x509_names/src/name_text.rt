@@ -9,7 +9,8 @@ ghost use Rattle.x509_der.specs.Reading.{element_of};
 ghost use Rattle.x509_names.specs.Names.{attribute_of, relative_name_of, name_of};
 ghost use Rattle.x509_names.specs.Objects.{registered_name};
 ghost use Rattle.x509_names.specs.Registry.{name_by};
-ghost use Rattle.x509_names.specs.NameTexts.{lossy_value_text, type_text, lossy_attribute_text, have_texts, lossy_relative_name_text, name_text, lossy_name_text, shown_name, called_by, IsText};
+ghost use Rattle.x509_names.specs.NameTexts.{lossy_value_text, type_text, lossy_attribute_text, have_texts, lossy_relative_name_text, name_text};
+ghost use Rattle.x509_names.specs.NameTexts.{lossy_name_text, shown_name, called_by, IsText};
 
 use crate::name::{AttributeTypeAndValue, RelativeDistinguishedName, X509Name};
 use crate::objects::registered_name;

@@ -29,7 +29,8 @@ pub fn oid2abbrev<'r, 'a>(oid: &Oid<'a>, registry: &'r OidRegistry<'a>) -> Resul
 ///
 /// `NidError` where the registry has no entry for it.
 pub fn oid2sn<'r, 'a>(oid: &Oid<'a>, registry: &'r OidRegistry<'a>) -> Result<&'r str, NidError>
-    ensures { MatchResult result (λ name. short_name_in registry.now (oid_bytes oid.now) ≡ Some name.now) (λ _. short_name_in registry.now (oid_bytes oid.now) ≡ None) }
+    ensures { MatchResult result (λ name. short_name_in registry.now (oid_bytes oid.now) ≡ Some name.now)
+        (λ _. short_name_in registry.now (oid_bytes oid.now) ≡ None) }
 {
     match registry.get(oid) {
         Some(entry) => Ok(entry.sn()),
@@ -46,7 +47,8 @@ pub fn oid2description<'r, 'a>(
     oid: &Oid<'a>,
     registry: &'r OidRegistry<'a>,
 ) -> Result<&'r str, NidError>
-    ensures { MatchResult result (λ text. description_in registry.now (oid_bytes oid.now) ≡ Some text.now) (λ _. description_in registry.now (oid_bytes oid.now) ≡ None) }
+    ensures { MatchResult result (λ text. description_in registry.now (oid_bytes oid.now) ≡ Some text.now)
+        (λ _. description_in registry.now (oid_bytes oid.now) ≡ None) }
 {
     match registry.get(oid) {
         Some(entry) => Ok(entry.description()),

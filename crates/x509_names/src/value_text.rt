@@ -1,6 +1,7 @@
 //! The values of attributes as text.
 
-ghost use Rattle.std.specs.Prelude.{◌≡◌, ◌<◌, ◌+◌, ◌/◌, ◌%◌, ◌==◌, ◌++◌, ◌∷◌, [], Some, None, IfSome, IfNone, length, is_some, unwrap_or, encode_utf8, slice_index, string_bytes, if◌then◌else◌};
+ghost use Rattle.std.specs.Prelude.{◌≡◌, ◌<◌, ◌+◌, ◌/◌, ◌%◌, ◌==◌, ◌++◌, ◌∷◌, [], Some, None, IfSome, IfNone, length, is_some, unwrap_or, encode_utf8};
+ghost use Rattle.std.specs.Prelude.{slice_index, string_bytes, if◌then◌else◌};
 ghost use Rattle.std.specs.Fmt.{DisplaysOnOk};
 ghost use Rattle.std.specs.Option.{option_map};
 ghost use Rattle.hex.specs.Hex.{encode_upper, upper_digits};

@@ -12,7 +12,8 @@ ghost use Rattle.x509_general_names.specs.ReasonFlags.{reason_flags_of};
 ghost use Rattle.x509_report_lines.specs.Says.{SaysMembers, SaysUnder, list_of};
 ghost use Rattle.x509_names.specs.Names.{relative_name_of};
 ghost use Rattle.x509_general_names.specs.GeneralName.{general_name_of};
-ghost use Rattle.x509_report_values.specs.Authorities.{reason_flags_report, authority_key_identifier_report, name_members, point_name_members, point_report, cover_members, issuing_point_report, access_report};
+ghost use Rattle.x509_report_values.specs.Authorities.{reason_flags_report, authority_key_identifier_report, name_members, point_name_members, point_report};
+ghost use Rattle.x509_report_values.specs.Authorities.{cover_members, issuing_point_report, access_report};
 
 use crate::bit_names::names_under;
 use crate::identifiers::oid_members;

@@ -5,7 +5,8 @@ ghost use Rattle.x509_general_names.specs.GeneralName.{GeneralNameValue, general
 ghost use Rattle.x509_general_names.specs.NameConstraints.{Constraints, constraints_of, subtree_of};
 ghost use Rattle.x509_report_lines.specs.Says.{SaysMembers};
 ghost use Rattle.x509_report_values.specs.Addresses.{address_text};
-ghost use Rattle.x509_report_values.specs.GeneralNames.{octets as hex_member, address_members, general_name_members, general_name_report, name_constraints_report};
+ghost use Rattle.x509_report_values.specs.GeneralNames.{octets as hex_member, address_members, general_name_members, general_name_report};
+ghost use Rattle.x509_report_values.specs.GeneralNames.{name_constraints_report};
 
 use crate::addresses::address_text;
 use crate::said::{Said, optional_list_under, value_under};

@@ -18,7 +18,8 @@ fn say_value(
     out: &mut Line,
     attribute: &AttributeTypeAndValue<'_>,
 ) -> Result<(), AllocError>
-    ensures { SaysMembers result out.old out.new (value_members (string_in (attribute_of attribute.now).attr_value) (attribute_of attribute.now).attr_value.contents) }
+    ensures { SaysMembers result out.old out.new
+        (value_members (string_in (attribute_of attribute.now).attr_value) (attribute_of attribute.now).attr_value.contents) }
 {
     match attribute.as_str() {
         Ok(text) => {

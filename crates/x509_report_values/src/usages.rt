@@ -10,7 +10,9 @@ ghost use Rattle.x509_values.specs.PolicyConstraints.{PolicyConstraintsValue, po
 ghost use Rattle.x509_values.specs.PolicyMapping.{PolicyMappingValue, policy_mapping_of};
 ghost use Rattle.json.specs.Json as json;
 ghost use Rattle.x509_report_lines.specs.Says.{SaysUnder, list_of};
-ghost use Rattle.x509_report_values.specs.Usages.{basic_constraints_report, key_usage_report, ns_cert_type_report, policy_constraints_report, inhibit_any_policy_report, qualifier_report, policy_report, policy_mapping_report, extended_key_usage_report, reason_report};
+ghost use Rattle.x509_report_values.specs.Usages.{basic_constraints_report, key_usage_report, ns_cert_type_report, policy_constraints_report};
+ghost use Rattle.x509_report_values.specs.Usages.{inhibit_any_policy_report, qualifier_report, policy_report, policy_mapping_report, extended_key_usage_report};
+ghost use Rattle.x509_report_values.specs.Usages.{reason_report};
 
 use crate::bit_names::names_under;
 use crate::identifiers::oid_members;

@@ -33,7 +33,8 @@ pub(crate) struct AttributeParts<'a> {
 fn loose_sequence_at<'a, L: Outside>(
     place: &Place<'a, L>,
 ) -> Result<Window<'a, L>, Refused<X509Error, L>>
-    ensures reads { ReadsWindow loose (is_constructed 16) (λ x. bytes_in x) (λ x. outside_in x) (lifted loose_sequence) L.adds (at place.now) (outside_of place.now) result }
+    ensures reads { ReadsWindow loose (is_constructed 16) (λ x. bytes_in x) (λ x. outside_in x) (lifted loose_sequence) L.adds (at place.now)
+        (outside_of place.now) result }
     ensures marks { (lifted loose_sequence).marks (at place.now) ≡ true }
 {
     let (any, _) = place.any_marked().map_err(|e| e.convert())?;
@@ -78,7 +79,8 @@ fn read_attribute_fields<'a, L: Outside>(
     ensures reads { GivesAt (λ x. (behind (at place.now), parts_of x.0)) attribute_fields L.adds (at place.now) (outside_of place.now) result }
     ensures marks { IfOk result (λ x. x.1 ≡ attribute_fields.marks (at place.now)) }
     ensures grows { tries.old ≤ tries.new }
-    ensures count { IfOk result (λ x. tries.new + 9 + 8 * length (element_of x.0.element).contents + 8 * length (behind (at place.now)) ≤ tries.old + 8 * length (at place.now)) }
+    ensures count { IfOk result
+        (λ x. tries.new + 9 + 8 * length (element_of x.0.element).contents + 8 * length (behind (at place.now)) ≤ tries.old + 8 * length (at place.now)) }
     ensures few_tries { tries.new ≤ tries.old + (8 * length (at place.now) - 8) }
     ensures foreign { IsForeign loose (is_constructed 16) (at place.now) → IsErr result × (tries.new ≤ tries.old) }
     ensures least { IfOk result (λ _. AddsAtLeast 2 tries.old tries.new) }
@@ -108,7 +110,8 @@ pub(crate) fn read_attribute_parts<'a, L: Outside>(
     ensures reads { GivesAt (λ x. (behind (at place.now), parts_of x.0)) attribute_parts L.adds (at place.now) (outside_of place.now) result }
     ensures marks { IfOk result (λ x. x.1 ≡ attribute_parts.marks (at place.now)) }
     ensures grows { tries.old ≤ tries.new }
-    ensures count { IfOk result (λ x. tries.new + 9 + 8 * length (element_of x.0.element).contents + 8 * length (behind (at place.now)) ≤ tries.old + 8 * length (at place.now)) }
+    ensures count { IfOk result
+        (λ x. tries.new + 9 + 8 * length (element_of x.0.element).contents + 8 * length (behind (at place.now)) ≤ tries.old + 8 * length (at place.now)) }
     ensures few_tries { tries.new ≤ tries.old + (8 * length (at place.now) - 8) }
     ensures foreign { IsForeign loose (is_constructed 16) (at place.now) → IsErr result × (tries.new ≤ tries.old) }
     ensures least { IfOk result (λ _. AddsAtLeast 2 tries.old tries.new) }

@@ -8,7 +8,8 @@ ghost use Rattle.x509_der.specs.Promises.{Answers, is_excused};
 ghost use Rattle.x509_fields.specs.declared.error.X509Error.TheVariants.{InvalidAttributes, OutOfMemory};
 ghost use Rattle.x509_der.specs.Reading.{loose};
 ghost use Rattle.x509_fields.specs.Errors.{is_x509_memory};
-ghost use Rattle.x509_requests.specs.CriAttribute.{Attribute, attribute_of, parsed_of, extensions_in, attribute, attribute_heads, kind_of, said_by, marks_of_values};
+ghost use Rattle.x509_requests.specs.CriAttribute.{Attribute, attribute_of, parsed_of, extensions_in, attribute, attribute_heads, kind_of, said_by};
+ghost use Rattle.x509_requests.specs.CriAttribute.{marks_of_values};
 ghost use Rattle.x509_requests.specs.AttributeLaws.{attribute_laws};
 
 use crate::attribute_kind::AttributeKind;

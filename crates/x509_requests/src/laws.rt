@@ -21,5 +21,6 @@ pub const fn grammar_laws()
     ensures certification_request { IsMarkedElement is_x509_memory certification_request }
     ensures info_window { (place : List ℕ) (i : RequestInfo) (next : List ℕ) → request_info.Is place i next → place ≡ i.raw ++ next }
     // Of every front that is a request, and so of all that the reader accepts.
-    ensures request_stands { (bytes : List ℕ) (s : Signed RequestInfo) (rest : List ℕ) → IsBytes bytes → IsFront certification_request bytes s rest → RequestStands bytes s rest }
+    ensures request_stands { (bytes : List ℕ) (s : Signed RequestInfo) (rest : List ℕ) → IsBytes bytes → IsFront certification_request bytes s rest
+        → RequestStands bytes s rest }
 {}

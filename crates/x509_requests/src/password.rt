@@ -38,7 +38,8 @@ pub(crate) fn read_password<'a, L: Outside>(
     alloc: Global,
     place: &Place<'a, L>,
 ) -> Result<ChallengePassword, Refused<X509Error, L>>
-    ensures reads { AnswersAt is_x509_memory true (λ x. (behind (at place.now), string_bytes x.0)) password L.adds (at place.now) (outside_of place.now) result }
+    ensures reads { AnswersAt is_x509_memory true (λ x. (behind (at place.now), string_bytes x.0)) password L.adds (at place.now) (outside_of place.now)
+        result }
     ensures marks { password.marks (at place.now) ≡ true }
     ensures there { IfOk result (λ _. is_element (at place.now) ≡ true) }
 {

@@ -5,7 +5,8 @@ ghost use Rattle.x509_der.specs.Leaves.{sequence};
 ghost use Rattle.x509_der.specs.Primitives.{is_constructed};
 ghost use Rattle.x509_der.specs.Promises.{OneTryEach};
 ghost use Rattle.x509_der.specs.Reading.{strict};
-ghost use Rattle.x509_values.specs.BasicConstraints.{BasicConstraintsValue, basic_constraints_of, basic_constraints, basic_constraints_heads, basic_constraints_laws};
+ghost use Rattle.x509_values.specs.BasicConstraints.{BasicConstraintsValue, basic_constraints_of, basic_constraints, basic_constraints_heads};
+ghost use Rattle.x509_values.specs.BasicConstraints.{basic_constraints_laws};
 
 use std::alloc::Global;
 use x509_der::{BerError, Err, Fields, FromDer, Outside, Place, Refused, Tries};

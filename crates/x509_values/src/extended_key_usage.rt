@@ -1,13 +1,15 @@
 //! What a key may be used for, by identifiers.
 
-ghost use Rattle.std.specs.Prelude.{◌≡◌, ℕ, List, [], ◌∷◌, ◌++◌, ◌+◌, ◌-◌, ◌*◌, ◌≤◌, IfOk, OnOk, MatchOption, MatchResult, length, map, false, true, if◌then◌else◌};
+ghost use Rattle.std.specs.Prelude.{◌≡◌, ℕ, List, [], ◌∷◌, ◌++◌, ◌+◌, ◌-◌, ◌*◌, ◌≤◌, IfOk, OnOk, MatchOption, MatchResult, length, map, false, true};
+ghost use Rattle.std.specs.Prelude.{if◌then◌else◌};
 ghost use Rattle.x509_der.specs.Oid.{oid_bytes};
 ghost use Rattle.x509_der.specs.Plan.{marks_of_members};
 ghost use Rattle.x509_der.specs.Primitives.{is_constructed, is_primitive};
 ghost use Rattle.x509_der.specs.Promises.{Answers, is_excused};
 ghost use Rattle.x509_der.specs.Reading.{AddsAtLeast, strict};
 ghost use Rattle.x509_fields.specs.Errors.{is_x509_memory};
-ghost use Rattle.x509_values.specs.ExtendedKeyUsage.{AreBehindFirst, Usages, named_purposes, octets_of, holds, usages_in, usages_of, usages_heads, key_purpose_of, key_purpose, key_purpose_laws, said_at, extended_key_usage, extended_key_usage_laws};
+ghost use Rattle.x509_values.specs.ExtendedKeyUsage.{AreBehindFirst, Usages, named_purposes, octets_of, holds, usages_in, usages_of, usages_heads};
+ghost use Rattle.x509_values.specs.ExtendedKeyUsage.{key_purpose_of, key_purpose, key_purpose_laws, said_at, extended_key_usage, extended_key_usage_laws};
 
 use std::alloc::Global;
 use std::collections::BTreeSet;
@@ -162,7 +164,10 @@ fn list_once<'a>(
     id: Oid<'a>,
 ) -> Result<(), Err<X509Error>>
     requires { AreBehindFirst list.old seen.old }
-    ensures list { MatchResult result (λ _. map oid_bytes list.new ≡ (if holds (map oid_bytes list.old) (oid_bytes id.entry) then map oid_bytes list.old else map oid_bytes list.old ++ oid_bytes id.entry ∷ [])) (λ e. is_excused is_x509_memory true e ≡ true) }
+    ensures list { MatchResult result
+        (λ _. map oid_bytes list.new
+        ≡ (if holds (map oid_bytes list.old) (oid_bytes id.entry) then map oid_bytes list.old else map oid_bytes list.old ++ oid_bytes id.entry ∷ []))
+        (λ e. is_excused is_x509_memory true e ≡ true) }
     ensures seen { OnOk result (AreBehindFirst list.new seen.new) }
 {
     if let [first, ..] = list.as_slice() {

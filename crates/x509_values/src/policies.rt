@@ -3,7 +3,9 @@
 ghost use Rattle.std.specs.Prelude.{List, false, true};
 ghost use Rattle.x509_der.specs.Primitives.{is_constructed};
 ghost use Rattle.x509_der.specs.Reading.{strict};
-ghost use Rattle.x509_values.specs.Policies.{PolicyQualifierValue, policy_qualifier_of, policy_qualifier, policy_qualifier_heads, policy_qualifier_laws, policy_qualifiers_of, policy_qualifiers, policy_qualifiers_heads, policy_qualifiers_laws, PolicyValue, policy_of, policy, policy_heads, policy_laws, policies_of, policies, policies_heads, policies_laws};
+ghost use Rattle.x509_values.specs.Policies.{PolicyQualifierValue, policy_qualifier_of, policy_qualifier, policy_qualifier_heads, policy_qualifier_laws};
+ghost use Rattle.x509_values.specs.Policies.{policy_qualifiers_of, policy_qualifiers, policy_qualifiers_heads, policy_qualifiers_laws, PolicyValue, policy_of};
+ghost use Rattle.x509_values.specs.Policies.{policy, policy_heads, policy_laws, policies_of, policies, policies_heads, policies_laws};
 
 use std::alloc::Global;
 use x509_der::{

@@ -5,7 +5,8 @@ ghost use Rattle.x509_der.specs.Leaves.{sequence};
 ghost use Rattle.x509_der.specs.Primitives.{is_constructed};
 ghost use Rattle.x509_der.specs.Promises.{OneTryEach};
 ghost use Rattle.x509_der.specs.Reading.{strict};
-ghost use Rattle.x509_values.specs.PolicyConstraints.{PolicyConstraintsValue, policy_constraints_of, policy_constraints, policy_constraints_heads, policy_constraints_laws};
+ghost use Rattle.x509_values.specs.PolicyConstraints.{PolicyConstraintsValue, policy_constraints_of, policy_constraints, policy_constraints_heads};
+ghost use Rattle.x509_values.specs.PolicyConstraints.{policy_constraints_laws};
 
 use std::alloc::Global;
 use x509_der::{BerError, Err, ErrorKind, Fields, FromDer, Outside, Place, Refused, Tries};

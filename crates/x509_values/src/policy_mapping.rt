@@ -7,7 +7,8 @@ ghost use Rattle.x509_der.specs.Primitives.{is_constructed};
 ghost use Rattle.x509_der.specs.Reading.{strict};
 ghost use Rattle.x509_fields.specs.declared.error.X509Error.TheVariants.{OutOfMemory};
 ghost use Rattle.x509_fields.specs.Groups.{held, pointed};
-ghost use Rattle.x509_values.specs.PolicyMapping.{PolicyMappingValue, policy_mapping_of, policy_mapping, policy_mapping_heads, policy_mapping_laws, policy_mappings_of, policy_mappings, policy_mappings_heads, policy_mappings_laws, subjects};
+ghost use Rattle.x509_values.specs.PolicyMapping.{PolicyMappingValue, policy_mapping_of, policy_mapping, policy_mapping_heads, policy_mapping_laws};
+ghost use Rattle.x509_values.specs.PolicyMapping.{policy_mappings_of, policy_mappings, policy_mappings_heads, policy_mappings_laws, subjects};
 
 use std::alloc::Global;
 use std::collections::HashMap;
@@ -37,7 +38,8 @@ pub struct PolicyMapping<'a> {
 impl<'a> PolicyMapping<'a> {
     /// The mapping of these two policies.
     pub const fn new(issuer_domain_policy: Oid<'a>, subject_domain_policy: Oid<'a>) -> Self
-        ensures { policy_mapping_of result ≡ record { issuer_domain_policy = oid_bytes issuer_domain_policy.entry; subject_domain_policy = oid_bytes subject_domain_policy.entry } }
+        ensures { policy_mapping_of result
+            ≡ record { issuer_domain_policy = oid_bytes issuer_domain_policy.entry; subject_domain_policy = oid_bytes subject_domain_policy.entry } }
     {
         PolicyMapping {
             issuer_domain_policy,

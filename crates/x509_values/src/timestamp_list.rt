@@ -58,7 +58,8 @@ fn read_some_entries<'a, L: Outside>(
     alloc: Global,
     i: &Window<'a, L>,
 ) -> Result<(&'a [u8], Sequence<SignedCertificateTimestamp<'a>>, bool), Refused<BerError, L>>
-    ensures reads { AnswersAt is_ber_memory true (λ x. (x.0.now, map timestamp_of x.1)) (run1 (empty_run ber.NomError) timestamp) L.adds (bytes_in i.now) (outside_in i.now) result }
+    ensures reads { AnswersAt is_ber_memory true (λ x. (x.0.now, map timestamp_of x.1)) (run1 (empty_run ber.NomError) timestamp) L.adds (bytes_in i.now)
+        (outside_in i.now) result }
     ensures marks { IfOk result (λ x. x.2 ≡ (run1 (empty_run ber.NomError) timestamp).marks (bytes_in i.now)) }
 {
     let (rest, entries, plain) = match read_entries(alloc, i.bytes()) {
