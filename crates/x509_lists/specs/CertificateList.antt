@@ -1,5 +1,5 @@
 -- Lists of revoked certificates (RFC 5280, 5.1).
-use Rattle.std.specs.Prelude.{ℕ, List}
+use Rattle.std.specs.Prelude.{ℕ, List, map}
 use Rattle.x509_der.specs.declared.error.Err.TheVariants.{Error}
 use Rattle.x509_der.specs.Laws.{IsElement, IsMarkedElement}
 use Rattle.x509_der.specs.Plan.{plain_only}
@@ -10,16 +10,23 @@ use Rattle.x509_fields.specs.declared.error.X509Error.TheVariants as x509
 use Rattle.x509_fields.specs.Errors.{is_x509_memory}
 use Rattle.x509_fields.specs.Fields.{Field}
 use Rattle.x509_fields.specs.Signed.{Signed, signed, signed_heads, signed_laws, SignedStands}
-use Rattle.x509_lists.specs.TbsCertList.{TbsList, tbs_list, tbs_list_of, tbs_list_heads, tbs_list_laws}
-use Rattle.x509_lists.specs.declared.certificate_list.CertificateRevocationList.{CertificateRevocationList}
+use Rattle.x509_lists.specs.RevokedCertificate.{Revoked, revoked_of}
+use Rattle.x509_lists.specs.TbsCertList.{TbsList, tbs_list, tbs_list_with, tbs_list_heads, tbs_list_laws}
+use Rattle.x509_lists.specs.declared.certificate_list.CertificateListOf.{CertificateListOf}
+use Rattle.x509_lists.specs.declared.revoked_certificate.RevokedCertificate.{RevokedCertificate}
 
-abbrev pub list_of : CertificateRevocationList → Signed TbsList
-list_of c = record {
+-- its certificates as they are kept
+abbrev pub list_with : {R : Type 0} → (R → List Revoked) → CertificateListOf R → Signed TbsList
+list_with entries c = record {
   raw = c.raw.now;
-  tbs = tbs_list_of c.tbs_cert_list;
+  tbs = tbs_list_with entries c.tbs_cert_list;
   signature_algorithm = algorithm_of c.signature_algorithm;
   signature_value = bit_string c.signature_value;
 }
+
+-- in memory
+abbrev pub list_of : CertificateListOf (List RevokedCertificate) → Signed TbsList
+list_of = list_with (map revoked_of)
 
 -- CertificateList ::= SEQUENCE { tbsCertList TBSCertList, signatureAlgorithm AlgorithmIdentifier, signatureValue BIT STRING }
 unfoldable pub certificate_list : Field (Signed TbsList)

@@ -1,15 +1,17 @@
 -- Whose certificates the entries of an indirect list are, and the entry of an issuer's serial (RFC 5280, 5.3.3).
-use Rattle.std.specs.Prelude.{◌≡◌, ◌==◌, ◌+◌, ℕ, List, [], ◌∷◌, Bool, true, false, cond, Option, Some, None, Ok, Err, MatchOption, slice_get}
+use Rattle.std.specs.Prelude.{◌≡◌, ◌==◌, ◌+◌, ◌⊎◌, ℕ, List, [], ◌∷◌, Bool, true, false, cond, Option, Some, None, Result, Ok, Err, MatchOption, MatchResult, slice_get}
 use Rattle.std.specs.Int.Digits.{number_from_digits}
 use Rattle.std.specs.List.{find, list_any}
 use Rattle.std.specs.Str.{bytes_eq}
 use Rattle.x509_der.specs.declared.error.Err.{Err as Refusal}
 use Rattle.x509_der.specs.Plan.{Outcome, nothing_left}
 use Rattle.x509_fields.specs.declared.error.X509Error.{X509Error}
+use Rattle.x509_fields.specs.declared.error.X509Error.TheVariants.{InvalidExtensions, OutOfMemory}
 use Rattle.x509_general_names.specs.AlternativeNames.{general_names}
 use Rattle.x509_general_names.specs.GeneralName.{GeneralNameValue, DirectoryName}
 use Rattle.x509_extensions.specs.Extension.{Extension}
 use Rattle.x509_lists.specs.RevokedCertificate.{Revoked, revoked_of}
+use Rattle.x509_lists.specs.TbsCertList.{TbsList}
 use Rattle.x509_lists.specs.declared.revoked_certificate.RevokedCertificate.{RevokedCertificate}
 
 -- ---- what an entry says
@@ -79,6 +81,19 @@ place_of issuer number before position (entry ∷ entries) =
 abbrev pub place_for : List ℕ → List Revoked → List ℕ → ℕ → Place
 place_for list_issuer all issuer number = place_of issuer number (bytes_eq list_issuer issuer) 0 all
 
--- the position of that entry, and the entry; none where there is none
+-- the position of that entry; none where there is none
+abbrev pub IsPlace : Place → Option ℕ → Type 0
+IsPlace place found = MatchOption found (place ≡ nowhere) (λ position. place ≡ at position)
+
+-- the same, and the entry
 abbrev pub IsFoundFor : List Revoked → Place → Option (ℕ × RevokedCertificate) → Type 0
 IsFoundFor all place found = MatchOption found (place ≡ nowhere) (λ x. (place ≡ at x.0) × (slice_get all x.0 ≡ Some (revoked_of x.1)))
+
+-- ---- a look-up on a whole list
+
+abbrev pub place_on : TbsList → List ℕ → ℕ → Place
+place_on list = place_for list.issuer.raw list.revoked_certificates
+
+-- what is promised of that place; or memory is wanting, or nobody knows whose the entries up to it are
+abbrev pub FindsFor : {A : Type 0} → (Place → A → Type 0) → Place → Result A X509Error → Type 0
+FindsFor Is place result = MatchResult result (Is place) (λ e. (e ≡ OutOfMemory) ⊎ ((e ≡ InvalidExtensions) × (place ≡ unclear)))

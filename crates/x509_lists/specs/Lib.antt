@@ -5,7 +5,6 @@ pub mod RevokedEntries
 pub mod NextUpdate
 pub mod Issue
 pub mod TbsCertList
-pub mod TbsParts
 pub mod CertificateList
 pub mod ListEntries
 pub mod FindRevoked

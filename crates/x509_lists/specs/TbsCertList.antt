@@ -16,7 +16,8 @@ use Rattle.x509_lists.specs.Issue.{issue, issue_laws, issue_away, issue_heads}
 use Rattle.x509_lists.specs.RevokedCertificate.{Revoked, revoked_of}
 use Rattle.x509_lists.specs.RevokedList.{revoked_list, revoked_list_laws, revocations_heads}
 use Rattle.x509_extensions.proofs.ClosingExtensions.{wrapped_extensions_parted}
-use Rattle.x509_lists.specs.declared.tbs_cert_list.TbsCertList.{TbsCertList}
+use Rattle.x509_lists.specs.declared.revoked_certificate.RevokedCertificate.{RevokedCertificate}
+use Rattle.x509_lists.specs.declared.tbs_cert_list.TbsCertListOf.{TbsCertListOf}
 
 -- ---- the value
 
@@ -31,17 +32,22 @@ pub record TbsList : Type 0 where
   pub revoked_certificates : List Revoked
   pub extensions : List Extension
 
-abbrev pub tbs_list_of : TbsCertList → TbsList
-tbs_list_of t = record {
+-- its certificates as they are kept
+abbrev pub tbs_list_with : {R : Type 0} → (R → List Revoked) → TbsCertListOf R → TbsList
+tbs_list_with entries t = record {
   raw = t.raw.now;
   version = option_view (λ v. v.0) t.version;
   signature = algorithm_of t.signature;
   issuer = name_of t.issuer;
   this_update = time_of t.this_update;
   next_update = option_view time_of t.next_update;
-  revoked_certificates = map revoked_of t.revoked_certificates;
+  revoked_certificates = entries t.revoked_certificates;
   extensions = map extension_of t.extensions;
 }
+
+-- in memory
+abbrev pub tbs_list_of : TbsCertListOf (List RevokedCertificate) → TbsList
+tbs_list_of = tbs_list_with (map revoked_of)
 
 -- ---- the grammar
 

@@ -4,21 +4,27 @@ ghost use Rattle.std.specs.Prelude.{◌≡◌, true};
 ghost use Rattle.x509_der.specs.Primitives.{is_constructed};
 ghost use Rattle.x509_der.specs.Reading.{strict};
 ghost use Rattle.x509_fields.specs.Signed.{Signed};
+ghost use Rattle.x509_lists.specs.CertificateList.{certificate_list, certificate_list_laws, list_heads, list_of};
+ghost use Rattle.x509_lists.specs.ListEntries.{list_entries_of};
+ghost use Rattle.x509_lists.specs.RevokedEntries.{entries_left, entries_of};
 ghost use Rattle.x509_lists.specs.RevokedList.{revoked_left};
 ghost use Rattle.x509_lists.specs.TbsCertList.{TbsList};
-ghost use Rattle.x509_lists.specs.CertificateList.{list_of, list_heads, certificate_list, certificate_list_laws};
 
+use crate::entries_iter::EntriesIter;
+use crate::revoked_certificate::RevokedCertificate;
+use crate::revoked_entries::RevokedEntries;
 use crate::revoked_iter::RevokedIter;
-use crate::tbs_cert_list::TbsCertList;
+use crate::tbs_cert_list::TbsCertListOf;
 use std::alloc::Global;
-use x509_der::{BitString, FromDer, OfType, Outside, Place, Refused, Tries, ok};
+use x509_der::{BitString, FromDer, OfType, Outside, Place, Refused, Sequence, Tries, ok};
 use x509_extensions::X509Extension;
 use x509_fields::{
     ASN1Time, AlgorithmIdentifier, Signed, TryClone, X509Error, X509Version, read_signed,
 };
 use x509_names::X509Name;
 
-/// A list of revoked certificates (RFC 5280, section 5.1). Its signature is not looked into.
+/// A list of revoked certificates (RFC 5280, section 5.1), its certificates kept as `R` says: [`CertificateRevocationList`] and
+/// [`CertificateListEntries`] are its two kinds. Its signature is not looked into.
 ///
 /// ```text
 /// CertificateList  ::=  SEQUENCE  {
@@ -27,9 +33,9 @@ use x509_names::X509Name;
 ///     signatureValue      BIT STRING  }
 /// ```
 #[derive(Debug, Drop)]
-pub struct CertificateRevocationList<'a> {
+pub struct CertificateListOf<'a, R> {
     /// The part that is signed.
-    pub tbs_cert_list: TbsCertList<'a>,
+    pub tbs_cert_list: TbsCertListOf<'a, R>,
     /// The algorithm of the signature.
     pub signature_algorithm: AlgorithmIdentifier<'a>,
     /// The bits of the signature.
@@ -37,7 +43,14 @@ pub struct CertificateRevocationList<'a> {
     pub(crate) raw: &'a [u8],
 }
 
-impl<'a> CertificateRevocationList<'a> {
+/// A list of revoked certificates, these in memory.
+pub type CertificateRevocationList<'a> = CertificateListOf<'a, Sequence<RevokedCertificate<'a>>>;
+
+/// A list of revoked certificates, each of which was read, and stays in its octets: a list of any length takes the memory of its name
+/// and its own extensions.
+pub type CertificateListEntries<'a> = CertificateListOf<'a, RevokedEntries<'a>>;
+
+impl<'a, R> CertificateListOf<'a, R> {
     /// The version, where one is written that can be read.
     pub fn version(&self) -> Option<X509Version>
         ensures { result ≡ self.now.tbs_cert_list.version }
@@ -66,13 +79,6 @@ impl<'a> CertificateRevocationList<'a> {
         self.tbs_cert_list.next_update
     }
 
-    /// Iterates over the certificates that were revoked, in order.
-    pub fn iter_revoked_certificates(&self) -> RevokedIter<'_, 'a>
-        ensures { revoked_left result ≡ self.now.tbs_cert_list.revoked_certificates }
-    {
-        RevokedIter::new(self.tbs_cert_list.revoked_certificates.as_slice())
-    }
-
     /// The extensions, in order; two may have one identifier.
     pub fn extensions(&self) -> &[X509Extension<'a>]
         ensures { result.now ≡ self.now.tbs_cert_list.extensions }
@@ -82,16 +88,34 @@ impl<'a> CertificateRevocationList<'a> {
 
     /// The bytes of the list: the whole element, with its header.
     pub fn as_raw(&self) -> &'a [u8]
-        ensures { result.now ≡ (list_of self.now).raw }
+        ensures { result.now ≡ self.now.raw.now }
     {
         self.raw
     }
 
-    /// The same as [`CertificateRevocationList::as_raw`].
+    /// The same as [`CertificateListOf::as_raw`].
     pub fn as_ref(&self) -> &'a [u8]
-        ensures { result.now ≡ (list_of self.now).raw }
+        ensures { result.now ≡ self.now.raw.now }
     {
         self.as_raw()
+    }
+}
+
+impl<'a> CertificateRevocationList<'a> {
+    /// Iterates over the certificates that were revoked, in order.
+    pub fn iter_revoked_certificates(&self) -> RevokedIter<'_, 'a>
+        ensures { revoked_left result ≡ self.now.tbs_cert_list.revoked_certificates }
+    {
+        RevokedIter::new(self.tbs_cert_list.revoked_certificates.as_slice())
+    }
+}
+
+impl<'a> CertificateListEntries<'a> {
+    /// Reads the certificates that were revoked again, one after another. The extensions of each take memory from here.
+    pub fn iter_revoked_certificates(&self, alloc: Global) -> EntriesIter<'a>
+        ensures { entries_left result ≡ entries_of self.now.tbs_cert_list.revoked_certificates }
+    {
+        self.tbs_cert_list.revoked_certificates.iter(alloc)
     }
 }
 
@@ -130,7 +154,7 @@ impl<'a> FromDer<'a, X509Error> for CertificateRevocationList<'a> {
             },
             plain,
         ) = ok!(read_signed(&OfType, alloc, tries, place));
-        let list = CertificateRevocationList {
+        let list = CertificateListOf {
             tbs_cert_list: tbs,
             signature_algorithm,
             signature_value,
@@ -142,10 +166,57 @@ impl<'a> FromDer<'a, X509Error> for CertificateRevocationList<'a> {
     ghost never_memory = { certificate_list_laws.laws.never_memory };
 }
 
-impl TryClone for CertificateRevocationList<'_> {
+/// As [`CertificateRevocationList`].
+impl<'a> FromDer<'a, X509Error> for CertificateListEntries<'a> {
+    ghost Value = { Signed TbsList };
+
+    ghost view = { list_entries_of };
+
+    ghost plan = { certificate_list };
+
+    ghost laws = { certificate_list_laws.laws.lawful };
+
+    ghost marked = { certificate_list_laws.marked };
+
+    ghost form = { strict };
+
+    ghost own_tag = { is_constructed 16 };
+
+    ghost heads = { list_heads };
+
+    ghost takes_memory = { true };
+
+    #[tactic(auto, unfolding(crate::specs::CertificateList::certificate_list))]
+    fn read_at<L: Outside>(
+        alloc: Global,
+        tries: &mut Tries,
+        place: &Place<'a, L>,
+    ) -> Result<(Self, bool), Refused<X509Error, L>> {
+        let (
+            Signed {
+                tbs,
+                signature_algorithm,
+                signature_value,
+                raw,
+            },
+            plain,
+        ) = ok!(read_signed(&OfType, alloc, tries, place));
+        let list = CertificateListOf {
+            tbs_cert_list: tbs,
+            signature_algorithm,
+            signature_value,
+            raw,
+        };
+        Ok((list, plain))
+    }
+
+    ghost never_memory = { certificate_list_laws.laws.never_memory };
+}
+
+impl<R: TryClone> TryClone for CertificateListOf<'_, R> {
     fn try_clone(&self) -> Result<Self, X509Error> {
         let tbs_cert_list = self.tbs_cert_list.try_clone()?;
-        Ok(CertificateRevocationList {
+        Ok(CertificateListOf {
             tbs_cert_list,
             signature_algorithm: self.signature_algorithm,
             signature_value: self.signature_value,

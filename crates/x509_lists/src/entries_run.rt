@@ -44,7 +44,8 @@ fn pass_run<'a>(
     tries: &mut Tries,
     i: &'a [u8],
 ) -> Result<(&'a [u8], usize, bool), Err<X509Error>>
-    ensures reads { ReadsRun is_x509_memory strict (is_constructed 16) revoked_heads (λ x. (x.0.now, entries_in i.now)) (λ x. x.2) (run revoked) i.now tries.old tries.new result }
+    ensures reads { ReadsRun is_x509_memory strict (is_constructed 16) revoked_heads (λ x. (x.0.now, entries_in i.now)) (λ x. x.2) (run revoked) i.now
+        tries.old tries.new result }
     ensures count { IfOk result (λ x. x.1 ≡ length (entries_in i.now)) }
 {
     let mut rest = i;
@@ -74,7 +75,8 @@ pub(crate) fn read_entries<'a, L: Outside>(
     tries: &mut Tries,
     i: &Window<'a, L>,
 ) -> Result<(RevokedEntries<'a>, bool), Refused<X509Error, L>>
-    ensures { ReadsList is_x509_memory strict (is_constructed 16) revoked_heads (λ x. ([], entries_of x.0)) (λ x. x.1) (to_end (ended_early NomError) (run revoked)) L.adds (bytes_in i.now) (outside_in i.now) tries.old tries.new result }
+    ensures { ReadsList is_x509_memory strict (is_constructed 16) revoked_heads (λ x. ([], entries_of x.0)) (λ x. x.1)
+        (to_end (ended_early NomError) (run revoked)) L.adds (bytes_in i.now) (outside_in i.now) tries.old tries.new result }
 {
     let bytes = i.bytes();
     let (rest, count, plain) = match pass_run(alloc, tries, bytes) {

@@ -13,7 +13,7 @@ ghost use Rattle.x509_lists.specs.RevokedEntries.{IsSplit, entries_of};
 
 use crate::revoked_certificate::RevokedCertificate;
 use crate::revoked_entries::RevokedEntries;
-use crate::tbs_cert_list_entries::TbsCertListEntries;
+use crate::tbs_cert_list::TbsCertListEntries;
 use std::alloc::Global;
 use x509_der::{Nowhere, Place, Tries, UnsignedBytes};
 use x509_fields::{X509Error, sequence_at, serial_at};
@@ -50,7 +50,8 @@ impl<'a> RevokedEntries<'a> {
 
     /// The position of the first certificate with this serial, and the certificates from it on.
     fn seek(&self, serial: &UnsignedBytes<'_>) -> Option<(usize, RevokedEntries<'a>)>
-        ensures { MatchOption result (first_of (serial_numbers (entries_of self.now)) (unsigned_number serial.now) ≡ None) (λ x. IsSought (entries_of self.now) (unsigned_number serial.now) x.0 (entries_of x.1)) }
+        ensures { MatchOption result (first_of (serial_numbers (entries_of self.now)) (unsigned_number serial.now) ≡ None)
+            (λ x. IsSought (entries_of self.now) (unsigned_number serial.now) x.0 (entries_of x.1)) }
     {
         let mut left = *self;
         let mut position = 0;

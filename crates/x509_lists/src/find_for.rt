@@ -6,12 +6,13 @@ ghost use Rattle.x509_der.specs.Unsigned.{unsigned_number};
 ghost use Rattle.x509_extensions.specs.Extension.{extension_of};
 ghost use Rattle.x509_fields.specs.declared.error.X509Error.TheVariants.{InvalidExtensions, OutOfMemory};
 ghost use Rattle.x509_general_names.specs.GeneralName.{general_name_of};
-ghost use Rattle.x509_lists.specs.EntryIssuers.{IsFoundFor, is_name, is_of, place_for, said_by, unclear};
+ghost use Rattle.x509_lists.specs.EntryIssuers.{FindsFor, IsFoundFor, IsPlace, is_name, is_of, place_on, said_by};
 ghost use Rattle.x509_lists.specs.ListEntries.{tbs_entries_of};
+ghost use Rattle.x509_lists.specs.TbsCertList.{tbs_list_of};
 ghost use Rattle.x509_names.specs.Names.{name_of};
 
 use crate::revoked_certificate::RevokedCertificate;
-use crate::tbs_cert_list_entries::TbsCertListEntries;
+use crate::tbs_cert_list::{TbsCertList, TbsCertListEntries};
 use std::alloc::Global;
 use x509_der::{FromDer, Oid, Tries, UnsignedBytes};
 use x509_extensions::X509Extension;
@@ -46,7 +47,8 @@ fn is_entry_of(
     issuer: &[u8],
     before: bool,
 ) -> Result<bool, X509Error>
-    ensures { MatchResult result (λ ours. is_of issuer.now before (said_by (map extension_of extensions.now)) ≡ Some ours) (λ e. (e ≡ OutOfMemory) ⊎ ((e ≡ InvalidExtensions) × (is_of issuer.now before (said_by (map extension_of extensions.now)) ≡ None))) }
+    ensures { MatchResult result (λ ours. is_of issuer.now before (said_by (map extension_of extensions.now)) ≡ Some ours)
+        (λ e. (e ≡ OutOfMemory) ⊎ ((e ≡ InvalidExtensions) × (is_of issuer.now before (said_by (map extension_of extensions.now)) ≡ None))) }
 {
     let oid = Oid::new(CERTIFICATE_ISSUER);
     let value = match x509_extensions::find_extension(extensions, &oid) {
@@ -84,7 +86,8 @@ impl<'a> TbsCertListEntries<'a> {
         issuer: &X509Name<'_>,
         serial: &UnsignedBytes<'_>,
     ) -> Result<Option<(usize, RevokedCertificate<'a>)>, X509Error>
-        ensures { MatchResult result (IsFoundFor (tbs_entries_of self.now).revoked_certificates (place_for (name_of self.now.issuer).raw (tbs_entries_of self.now).revoked_certificates (name_of issuer.now).raw (unsigned_number serial.now))) (λ e. (e ≡ OutOfMemory) ⊎ ((e ≡ InvalidExtensions) × (place_for (name_of self.now.issuer).raw (tbs_entries_of self.now).revoked_certificates (name_of issuer.now).raw (unsigned_number serial.now) ≡ unclear))) }
+        ensures { FindsFor (IsFoundFor (tbs_entries_of self.now).revoked_certificates)
+            (place_on (tbs_entries_of self.now) (name_of issuer.now).raw (unsigned_number serial.now)) result }
     {
         let mut ours = self.issuer.as_raw() == issuer.as_raw();
         let mut position = 0;
@@ -97,6 +100,35 @@ impl<'a> TbsCertListEntries<'a> {
             ours = is_entry_of(alloc, entry.extensions(), issuer.as_raw(), ours)?;
             if ours & (entry.user_certificate == *serial) {
                 return Ok(Some((position, entry)));
+            }
+            position += 1;
+        }
+        Ok(None)
+    }
+}
+
+impl<'a> TbsCertList<'a> {
+    /// The position of the first entry of this issuer's certificate with this serial, as [`TbsCertListEntries::find_for`] answers it. The names
+    /// that entries say are read anew, with memory from where the list takes its own.
+    ///
+    /// # Errors
+    ///
+    /// As there.
+    pub fn find_for(
+        &self,
+        issuer: &X509Name<'_>,
+        serial: &UnsignedBytes<'_>,
+    ) -> Result<Option<usize>, X509Error>
+        ensures { FindsFor IsPlace (place_on (tbs_list_of self.now) (name_of issuer.now).raw (unsigned_number serial.now)) result }
+    {
+        let alloc = self.revoked_certificates.allocator();
+        let mut ours = self.issuer.as_raw() == issuer.as_raw();
+        let mut position = 0;
+        let revoked = self.revoked_certificates.as_slice();
+        for certificate in revoked {
+            ours = is_entry_of(alloc, certificate.extensions(), issuer.as_raw(), ours)?;
+            if ours & (certificate.user_certificate == *serial) {
+                return Ok(Some(position));
             }
             position += 1;
         }

@@ -21,5 +21,6 @@ pub const fn grammar_laws()
     ensures certificate_list { IsMarkedElement is_x509_memory certificate_list }
     ensures tbs_list_window { (place : List ℕ) (t : TbsList) (next : List ℕ) → tbs_list.Is place t next → place ≡ t.raw ++ next }
     // Of every front that is a list, and so of all that the reader accepts.
-    ensures list_stands { (bytes : List ℕ) (s : Signed TbsList) (rest : List ℕ) → IsBytes bytes → IsFront certificate_list bytes s rest → ListStands bytes s rest }
+    ensures list_stands { (bytes : List ℕ) (s : Signed TbsList) (rest : List ℕ) → IsBytes bytes → IsFront certificate_list bytes s rest
+        → ListStands bytes s rest }
 {}

@@ -2,7 +2,6 @@
 #![tactic(auto)]
 
 mod certificate_list;
-mod certificate_list_entries;
 mod entries_iter;
 mod entries_run;
 mod find_entries;
@@ -19,11 +18,9 @@ mod revoked_entries;
 mod revoked_iter;
 mod revoked_list;
 mod tbs_cert_list;
-mod tbs_cert_list_entries;
 mod tbs_parts;
 
-pub use certificate_list::CertificateRevocationList;
-pub use certificate_list_entries::CertificateListEntries;
+pub use certificate_list::{CertificateListEntries, CertificateListOf, CertificateRevocationList};
 pub use entries_iter::EntriesIter;
 pub use laws::grammar_laws;
 pub use parsing::{
@@ -34,6 +31,6 @@ pub use parsing::{
 pub use revoked_certificate::RevokedCertificate;
 pub use revoked_entries::RevokedEntries;
 pub use revoked_iter::RevokedIter;
-pub use tbs_cert_list::TbsCertList;
-pub use tbs_cert_list_entries::TbsCertListEntries;
+pub use tbs_cert_list::{TbsCertList, TbsCertListEntries, TbsCertListOf};
+pub use tbs_parts::Entries;
 pub use x509_extensions::ExtensionIter;

@@ -16,9 +16,12 @@ pub(crate) fn read_version<'a, L: Outside>(
     tries: &mut Tries,
     fields: &Fields<'a, L>,
 ) -> (Fields<'a, L>, Option<X509Version>)
-    ensures steps { StepsSoftLeaf (λ x. (next_of x.0, option_view (λ v. v.0) x.1)) (λ x. outer_of x.0) (λ x. plain_in x.0) version (plain_in fields.now) (next_of fields.now) (outer_of fields.now) tries.old tries.new result }
+    ensures steps { StepsSoftLeaf (λ x. (next_of x.0, option_view (λ v. v.0) x.1)) (λ x. outer_of x.0) (λ x. plain_in x.0) version (plain_in fields.now)
+        (next_of fields.now) (outer_of fields.now) tries.old tries.new result }
     ensures count { tries.new + 8 * length (next_of result.0) ≤ tries.old + 8 * length (next_of fields.now) }
-    ensures least { AddsAtLeast (option_heads (λ _. 1) (option_view (λ v. v.0) result.1) + min 1 (length (next_of result.0)) - min 1 (length (next_of fields.now))) tries.old tries.new }
+    ensures least { AddsAtLeast
+        (option_heads (λ _. 1) (option_view (λ v. v.0) result.1) + min 1 (length (next_of result.0)) - min 1 (length (next_of fields.now))) tries.old
+        tries.new }
 {
     match fields.place.u32() {
         Ok(number) => (fields.behind(tries, true), Some(X509Version(number))),

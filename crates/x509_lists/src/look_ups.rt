@@ -10,11 +10,9 @@ ghost use Rattle.x509_fields.specs.declared.error.X509Error.TheVariants.{OutOfMe
 ghost use Rattle.x509_names.specs.Objects as objects;
 ghost use Rattle.x509_extensions.specs.Lookups.{has_oid, oid_eq, all_distinct, first_said, crl_number_in, reason_code_in, invalidity_date_in};
 
-use crate::certificate_list::CertificateRevocationList;
-use crate::certificate_list_entries::CertificateListEntries;
+use crate::certificate_list::CertificateListOf;
 use crate::revoked_certificate::RevokedCertificate;
-use crate::tbs_cert_list::TbsCertList;
-use crate::tbs_cert_list_entries::TbsCertListEntries;
+use crate::tbs_cert_list::TbsCertListOf;
 use std::alloc::Global;
 use std::collections::HashMap;
 use std::hash::BuildHasher;
@@ -23,7 +21,7 @@ use x509_extensions::{ParsedExtension, X509Extension};
 use x509_fields::{ASN1Time, ReasonCode, X509Error};
 use x509_names::{OID_X509_EXT_CRL_NUMBER, OID_X509_EXT_INVALIDITY_DATE, OID_X509_EXT_REASON_CODE};
 
-impl<'a> TbsCertList<'a> {
+impl<'a, R> TbsCertListOf<'a, R> {
     /// The first extension with this identifier.
     pub fn find_extension(&self, oid: &Oid<'_>) -> Option<&X509Extension<'a>>
         ensures { option_copied result ≡ find (has_oid (oid_bytes oid.now)) self.now.extensions }
@@ -73,6 +71,7 @@ impl<'a> RevokedCertificate<'a> {
     {
         x509_extensions::extensions_map(alloc, self.extensions(), hasher)
     }
+
     /// Whether the reason is critical, and why the certificate was revoked (RFC 5280, section 5.3.1), as the first extension with that
     /// identifier says; none where its value can't be read.
     pub fn reason_code(&self) -> Option<(bool, ReasonCode)>
@@ -98,35 +97,10 @@ impl<'a> RevokedCertificate<'a> {
     }
 }
 
-impl<'a> TbsCertListEntries<'a> {
-    /// The first extension with this identifier.
-    pub fn find_extension(&self, oid: &Oid<'_>) -> Option<&X509Extension<'a>>
-        ensures { option_copied result ≡ find (has_oid (oid_bytes oid.now)) self.now.extensions }
-    {
-        x509_extensions::find_extension(self.extensions(), oid)
-    }
-
-    /// Each extension under its identifier.
-    ///
-    /// # Errors
-    ///
-    /// `DuplicateExtensions` where an identifier stands twice, and `OutOfMemory`.
-    pub fn extensions_map<S: BuildHasher + Drop>(
-        &self,
-        alloc: Global,
-        hasher: S,
-    ) -> Result<HashMap<Oid<'a>, &X509Extension<'a>, S>, X509Error>
-        ensures distinct { IfOk result (λ _. all_distinct self.now.extensions ≡ true) }
-        ensures entries { IfOk result (λ m. (q : OidOf) → option_copied (get oid_eq m q) ≡ find (has_oid (oid_bytes q)) self.now.extensions) }
-        ensures refused { IfErr result (λ e. (e ≡ OutOfMemory) ⊎ ((e ≡ DuplicateExtensions) × (all_distinct self.now.extensions ≡ false))) }
-    {
-        x509_extensions::extensions_map(alloc, self.extensions(), hasher)
-    }
-}
-
 // The number of a list with these extensions, as the first with that identifier says.
 fn crl_number_among<'v, 'a>(extensions: &'v [X509Extension<'a>]) -> Option<&'v UnsignedBytes<'a>>
-    ensures { option_map (λ number. number.now) result ≡ option_map (λ said. said.1) (first_said crl_number_in (find (has_oid objects.crl_number) extensions.now)) }
+    ensures { option_map (λ number. number.now) result
+        ≡ option_map (λ said. said.1) (first_said crl_number_in (find (has_oid objects.crl_number) extensions.now)) }
 {
     let extension = x509_extensions::find_extension(
         extensions,
@@ -138,21 +112,12 @@ fn crl_number_among<'v, 'a>(extensions: &'v [X509Extension<'a>]) -> Option<&'v U
     }
 }
 
-impl<'a> CertificateRevocationList<'a> {
+impl<'a, R> CertificateListOf<'a, R> {
     /// The number of the list (RFC 5280, section 5.2.3), as the first extension with that identifier says; none where its value
     /// can't be read.
     pub fn crl_number(&self) -> Option<&UnsignedBytes<'a>>
-        ensures { option_map (λ number. number.now) result ≡ option_map (λ said. said.1) (first_said crl_number_in (find (has_oid objects.crl_number) self.now.tbs_cert_list.extensions)) }
-    {
-        crl_number_among(self.extensions())
-    }
-}
-
-impl<'a> CertificateListEntries<'a> {
-    /// The number of the list (RFC 5280, section 5.2.3), as the first extension with that identifier says; none where its value
-    /// can't be read.
-    pub fn crl_number(&self) -> Option<&UnsignedBytes<'a>>
-        ensures { option_map (λ number. number.now) result ≡ option_map (λ said. said.1) (first_said crl_number_in (find (has_oid objects.crl_number) self.now.tbs_cert_list.extensions)) }
+        ensures { option_map (λ number. number.now) result
+            ≡ option_map (λ said. said.1) (first_said crl_number_in (find (has_oid objects.crl_number) self.now.tbs_cert_list.extensions)) }
     {
         crl_number_among(self.extensions())
     }

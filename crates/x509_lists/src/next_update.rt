@@ -20,13 +20,16 @@ pub(crate) fn read_next_update<'a, L: Outside>(
     tries: &mut Tries,
     fields: &Fields<'a, L>,
 ) -> Result<(Fields<'a, L>, Option<ASN1Time>), Refused<X509Error, L>>
-    ensures reads { AnswersAt is_x509_memory false (λ x. (next_of x.0, option_view time_of x.1)) next_update L.adds (next_of fields.now) (outer_of fields.now) result }
+    ensures reads { AnswersAt is_x509_memory false (λ x. (next_of x.0, option_view time_of x.1)) next_update L.adds (next_of fields.now) (outer_of fields.now)
+        result }
     ensures outer { IfOk result (λ x. outer_of x.0 ≡ outer_of fields.now) }
     ensures marks { IfOk result (λ x. plain_in x.0 ≡ (plain_in fields.now && next_update.marks (next_of fields.now))) }
     ensures grows { tries.old ≤ tries.new }
     ensures count { tries.new ≤ tries.old + (8 * length (next_of fields.now) - 8) }
     ensures sizes { IfOk result (λ x. tries.new + 8 * length (next_of x.0) ≤ tries.old + 8 * length (next_of fields.now)) }
-    ensures least { IfOk result (λ x. AddsAtLeast (option_heads (λ _. 1) (option_view time_of x.1) + min 1 (length (next_of x.0)) - min 1 (length (next_of fields.now))) tries.old tries.new) }
+    ensures least { IfOk result
+        (λ x. AddsAtLeast (option_heads (λ _. 1) (option_view time_of x.1) + min 1 (length (next_of x.0)) - min 1 (length (next_of fields.now))) tries.old
+        tries.new) }
 {
     if fields.are_over() {
         return Ok((fields.same(), None));

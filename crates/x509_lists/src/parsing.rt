@@ -6,8 +6,7 @@ ghost use Rattle.x509_fields.specs.Errors.{is_x509_memory};
 ghost use Rattle.x509_lists.specs.CertificateList.{ListStands, list_of, certificate_list, plain_list};
 ghost use Rattle.x509_lists.specs.ListEntries.{list_entries_of};
 
-use crate::certificate_list::CertificateRevocationList;
-use crate::certificate_list_entries::CertificateListEntries;
+use crate::certificate_list::{CertificateListEntries, CertificateRevocationList};
 use std::alloc::Global;
 use x509_der::{Err, FromDer, Located, Reader, Tries};
 use x509_fields::{Plainly, X509Error, X509Result};

@@ -12,7 +12,7 @@ use crate::entries_run::read_entries;
 use crate::tbs_parts::Entries;
 use std::alloc::Global;
 use x509_der::{Fields, FromDer, Outside, Place, Refused, Tries};
-use x509_fields::{X509Error, sequence_at};
+use x509_fields::{TryClone, X509Error, sequence_at};
 
 /// The certificates that a list revokes, in order (RFC 5280, section 5.1.2.6), which stay in the octets that they were read from: each
 /// was read once, and is read again when it is asked for, so they take no memory, however many there are. Equality goes by the octets.
@@ -30,16 +30,6 @@ impl<'a> RevokedEntries<'a> {
     ghost use Rattle.x509_der.specs.Plan.{got, members};
     ghost use Rattle.x509_lists.specs.RevokedCertificate.{revoked};
     ghost use Rattle.x509_lists.specs.RevokedEntries.{octets_of, entries_of, entries_left};
-
-    /// No certificates.
-    pub(crate) fn none() -> RevokedEntries<'a>
-        ensures { entries_of result ≡ [] }
-    {
-        RevokedEntries {
-            bytes: &[],
-            count: 0,
-        }
-    }
 
     /// How many certificates there are.
     pub fn len(&self) -> usize
@@ -67,7 +57,8 @@ impl<'a> RevokedEntries<'a> {
     pub(crate) fn behind_first<L: Outside>(&self, place: &Place<'a, L>) -> RevokedEntries<'a>
         requires some { 0 < length self.now.bytes.now }
         requires there { at place.now ≡ self.now.bytes.now }
-        ensures { (entry : Revoked) × (revoked.read (at place.now) ≡ got entry (behind (at place.now))) × (entries_of self.now ≡ entry ∷ entries_of result) × (result.bytes.now ≡ behind (at place.now)) }
+        ensures { (entry : Revoked) × (revoked.read (at place.now) ≡ got entry (behind (at place.now))) × (entries_of self.now ≡ entry ∷ entries_of result)
+            × (result.bytes.now ≡ behind (at place.now)) }
     {
         RevokedEntries {
             bytes: place.rest(),
@@ -123,11 +114,24 @@ impl<'a> Entries<'a> for RevokedEntries<'a> {
 
     ghost entries = { entries_of };
 
+    fn none(_alloc: Global) -> Self {
+        RevokedEntries {
+            bytes: &[],
+            count: 0,
+        }
+    }
+
     fn read_next<L: Outside>(
         alloc: Global,
         tries: &mut Tries,
         fields: &Fields<'a, L>,
     ) -> Result<(Fields<'a, L>, Option<Self>), Refused<X509Error, L>> {
         fields.soft(alloc, tries)
+    }
+}
+
+impl TryClone for RevokedEntries<'_> {
+    fn try_clone(&self) -> Result<Self, X509Error> {
+        Ok(*self)
     }
 }

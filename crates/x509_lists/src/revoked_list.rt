@@ -52,14 +52,25 @@ impl<'a> FromDer<'a, X509Error> for RevokedList<'a> {
     ghost never_memory = { revoked_list_laws.laws.never_memory };
 }
 
-impl<'a> Entries<'a> for RevokedList<'a> {
-    ghost entries = { revoked_list_of };
+impl<'a> Entries<'a> for Sequence<RevokedCertificate<'a>> {
+    ghost use Rattle.std.specs.Prelude.{map};
+    ghost use Rattle.x509_lists.specs.RevokedCertificate.{revoked_of};
+
+    ghost entries = { λ list. map revoked_of list };
+
+    fn none(alloc: Global) -> Self {
+        Sequence::new(alloc)
+    }
 
     fn read_next<L: Outside>(
         alloc: Global,
         tries: &mut Tries,
         fields: &Fields<'a, L>,
     ) -> Result<(Fields<'a, L>, Option<Self>), Refused<X509Error, L>> {
-        fields.soft(alloc, tries)
+        let (fields, entries) = fields.soft(alloc, tries)?;
+        match entries {
+            Some(RevokedList { list }) => Ok((fields, Some(list))),
+            None => Ok((fields, None)),
+        }
     }
 }

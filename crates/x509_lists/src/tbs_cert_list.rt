@@ -4,18 +4,19 @@ ghost use Rattle.std.specs.Prelude.{◌≡◌, true};
 ghost use Rattle.x509_der.specs.Primitives.{is_constructed};
 ghost use Rattle.x509_der.specs.Reading.{strict};
 ghost use Rattle.x509_extensions.specs.ExtensionList.{extensions_left};
-ghost use Rattle.x509_lists.specs.TbsCertList.{TbsList, tbs_list_of, tbs_list_heads, tbs_list, tbs_list_laws};
+ghost use Rattle.x509_lists.specs.TbsCertList.{TbsList, tbs_list, tbs_list_heads, tbs_list_laws, tbs_list_with};
 
 use crate::revoked_certificate::RevokedCertificate;
-use crate::revoked_list::RevokedList;
-use crate::tbs_parts::{TbsParts, read_parts};
+use crate::revoked_entries::RevokedEntries;
+use crate::tbs_parts::{Entries, read_parts};
 use std::alloc::Global;
-use x509_der::{FromDer, Outside, Place, Refused, Sequence, Tries, ok};
+use x509_der::{FromDer, Outside, Place, Refused, Sequence, Tries};
 use x509_extensions::{ExtensionIter, X509Extension};
 use x509_fields::{ASN1Time, AlgorithmIdentifier, TryClone, X509Error, X509Version};
 use x509_names::X509Name;
 
-/// The part of a list that is signed (RFC 5280, section 5.1.2).
+/// The part of a list that is signed (RFC 5280, section 5.1.2), its certificates kept as `R` says: [`TbsCertList`] and
+/// [`TbsCertListEntries`] are its two kinds.
 ///
 /// ```text
 /// TBSCertList  ::=  SEQUENCE  {
@@ -31,7 +32,7 @@ use x509_names::X509Name;
 ///     crlExtensions        [0]  EXPLICIT Extensions OPTIONAL  }
 /// ```
 #[derive(Debug, Drop, PartialEq)]
-pub struct TbsCertList<'a> {
+pub struct TbsCertListOf<'a, R> {
     /// The version, where one is written that can be read.
     pub version: Option<X509Version>,
     /// The algorithm that the signature is made with, as the signed part names it.
@@ -43,12 +44,18 @@ pub struct TbsCertList<'a> {
     /// When the next one comes at the latest, where that is said.
     pub next_update: Option<ASN1Time>,
     /// The certificates that were revoked, in order: all of them, or none where none are written.
-    pub revoked_certificates: Sequence<RevokedCertificate<'a>>,
+    pub revoked_certificates: R,
     pub(crate) extensions: Sequence<X509Extension<'a>>,
     pub(crate) raw: &'a [u8],
 }
 
-impl<'a> TbsCertList<'a> {
+/// The part of a list that is signed, its certificates in memory.
+pub type TbsCertList<'a> = TbsCertListOf<'a, Sequence<RevokedCertificate<'a>>>;
+
+/// The part of a list that is signed, its certificates left in their octets, where they take no memory.
+pub type TbsCertListEntries<'a> = TbsCertListOf<'a, RevokedEntries<'a>>;
+
+impl<'a, R> TbsCertListOf<'a, R> {
     /// The extensions, in order; two may have one identifier.
     pub fn extensions(&self) -> &[X509Extension<'a>]
         ensures { result.now ≡ self.now.extensions }
@@ -65,17 +72,17 @@ impl<'a> TbsCertList<'a> {
 
     /// The bytes that are signed: the whole element, with its header.
     pub fn as_ref(&self) -> &'a [u8]
-        ensures { result.now ≡ (tbs_list_of self.now).raw }
+        ensures { result.now ≡ self.now.raw.now }
     {
         self.raw
     }
 }
 
 /// The signed part alone, extensions with what their values say.
-impl<'a> FromDer<'a, X509Error> for TbsCertList<'a> {
+impl<'a, R: Entries<'a>> FromDer<'a, X509Error> for TbsCertListOf<'a, R> {
     ghost Value = { TbsList };
 
-    ghost view = { tbs_list_of };
+    ghost view = { tbs_list_with R.entries };
 
     ghost plan = { tbs_list };
 
@@ -96,42 +103,18 @@ impl<'a> FromDer<'a, X509Error> for TbsCertList<'a> {
         tries: &mut Tries,
         place: &Place<'a, L>,
     ) -> Result<(Self, bool), Refused<X509Error, L>> {
-        let (
-            TbsParts {
-                version,
-                issue,
-                revoked,
-                extensions,
-                raw,
-            },
-            plain,
-        ) = ok!(read_parts(alloc, tries, place));
-        let revoked_certificates = match revoked {
-            Some(RevokedList { list }) => list,
-            None => Sequence::new(alloc),
-        };
-        let tbs = TbsCertList {
-            version,
-            signature: issue.signature,
-            issuer: issue.issuer,
-            this_update: issue.this_update,
-            next_update: issue.next_update,
-            revoked_certificates,
-            extensions,
-            raw,
-        };
-        Ok((tbs, plain))
+        read_parts(alloc, tries, place)
     }
 
     ghost never_memory = { tbs_list_laws.laws.never_memory };
 }
 
-impl TryClone for TbsCertList<'_> {
+impl<R: TryClone> TryClone for TbsCertListOf<'_, R> {
     fn try_clone(&self) -> Result<Self, X509Error> {
         let issuer = self.issuer.try_clone()?;
         let revoked_certificates = self.revoked_certificates.try_clone()?;
         let extensions = self.extensions.try_clone()?;
-        Ok(TbsCertList {
+        Ok(TbsCertListOf {
             version: self.version,
             signature: self.signature,
             issuer,

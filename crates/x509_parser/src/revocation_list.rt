@@ -1,6 +1,7 @@
 //! Lists of revoked certificates (RFC 5280, section 5).
 
 pub use x509_lists::{
-    CertificateListEntries, CertificateRevocationList, EntriesIter, ExtensionIter,
-    RevokedCertificate, RevokedEntries, RevokedIter, TbsCertList, TbsCertListEntries,
+    CertificateListEntries, CertificateListOf, CertificateRevocationList, Entries, EntriesIter,
+    ExtensionIter, RevokedCertificate, RevokedEntries, RevokedIter, TbsCertList,
+    TbsCertListEntries, TbsCertListOf,
 };

@@ -292,12 +292,25 @@ impl Look<TbsCertListEntries<'_>> for IssuedBy<'_, '_> {
     }
 }
 
+/// The same on a list that is kept, by its position.
+impl Look<TbsCertList<'_>> for IssuedBy<'_, '_> {
+    fn look(&self, list: &TbsCertList<'_>, out: &mut Answer) {
+        match list.find_for(&self.issuer, &self.serial) {
+            Ok(position) => put_position(out, position),
+            Err(kind) => out.error(&kind),
+        }
+    }
+}
+
 // The entry of the serial that stands behind its issuer's name.
 fn issued(out: &mut Answer, a: &[u8], b: &[u8]) {
     match X509Name::from_der(out.alloc(), b) {
         Ok((serial, issuer)) => {
             let serial = UnsignedBytes::new(serial);
-            look_in::<TbsCertListEntries, _>(out, &IssuedBy { issuer, serial }, a);
+            let asked = IssuedBy { issuer, serial };
+            look_in::<TbsCertListEntries, _>(out, &asked, a);
+            out.add(" ");
+            look_in::<TbsCertList, _>(out, &asked, a);
         }
         Err(refusal) => out.refused(&refusal),
     }

@@ -7,7 +7,8 @@ ghost use Rattle.x509_lists.specs.CertificateList.{list_of};
 ghost use Rattle.x509_lists.specs.RevokedCertificate.{revoked_of};
 ghost use Rattle.x509_lists.specs.TbsCertList.{tbs_list_of};
 ghost use Rattle.x509_validators.specs.Visits.{Walks};
-ghost use Rattle.x509_visitors.specs.ListEvents.{revoked_certificate, value_event, extension_events, extensions_events, revoked_events, field_events, signature_events};
+ghost use Rattle.x509_visitors.specs.ListEvents.{revoked_certificate, value_event, extension_events, extensions_events, revoked_events, field_events};
+ghost use Rattle.x509_visitors.specs.ListEvents.{signature_events};
 ghost use Rattle.x509_visitors.specs.ListVisits.{event_of};
 
 use crate::list_visit::{ListVisit, ListVisits};

@@ -5,11 +5,12 @@ use Rattle.x509_fields.specs.Errors.{is_x509_memory}
 use Rattle.x509_fields.specs.Signed.{Signed}
 use Rattle.x509_lists.specs.CertificateList.{list_of}
 use Rattle.x509_lists.specs.TbsCertList.{TbsList}
-use Rattle.x509_lists.specs.declared.certificate_list.CertificateRevocationList.{CertificateRevocationList}
+use Rattle.x509_lists.specs.declared.certificate_list.CertificateListOf.{CertificateListOf}
+use Rattle.x509_lists.specs.declared.revoked_certificate.RevokedCertificate.{RevokedCertificate}
 use Rattle.x509_c.specs.Lists.{list_by}
 use Rattle.x509_c.proofs.lists.read.Goals as goal
 
-abbrev seen : Bor (List ℕ) × CertificateRevocationList → List ℕ × Signed TbsList
+abbrev seen : Bor (List ℕ) × CertificateListOf (List RevokedCertificate) → List ℕ × Signed TbsList
 seen x = (x.0.now, list_of x.1)
 
 pub returns-then-strict : goal.returns-then-strict

@@ -5,7 +5,7 @@ use Rattle.x509_lists.specs.RevokedEntries.{IsEntry}
 use Rattle.x509_lists.specs.declared.revoked_certificate.RevokedCertificate.{RevokedCertificate}
 use Rattle.x509_lists.proofs.Issuers.{is_of_read, has_number, is_here, walked_on}
 use Rattle.x509_lists.proofs.Seeking.{member_at}
-use Rattle.x509_lists.proofs.tbs_cert_list_entries.TbsCertListEntries.find_for.Goals as goal
+use Rattle.x509_lists.proofs.find_for.TbsCertListEntries.find_for.Goals as goal
 
 pub returns-then-ours-eq : goal.returns-then-ours-eq
 returns-then-ours-eq c =

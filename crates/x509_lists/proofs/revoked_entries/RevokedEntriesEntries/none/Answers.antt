@@ -1,5 +1,5 @@
 use Rattle.x509_lists.proofs.Passing.{holds_none}
-use Rattle.x509_lists.proofs.revoked_entries.RevokedEntries.none.Goals as goal
+use Rattle.x509_lists.proofs.revoked_entries.RevokedEntriesEntries.none.Goals as goal
 
 pub invariant_of-result : goal.invariant_of-result
 invariant_of-result c = record { holds = holds_none }

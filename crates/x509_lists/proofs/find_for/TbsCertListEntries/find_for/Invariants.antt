@@ -3,7 +3,7 @@ use Rattle.x509_lists.specs.EntryIssuers.{place_for}
 use Rattle.x509_lists.specs.RevokedEntries.{entries_of, entries_left}
 use Rattle.x509_names.specs.Names.{name_of}
 use Rattle.x509_lists.proofs.Issuers.{Walked}
-use Rattle.x509_lists.proofs.tbs_cert_list_entries.TbsCertListEntries.find_for.Given as goal
+use Rattle.x509_lists.proofs.find_for.TbsCertListEntries.find_for.Given as goal
 
 abbrev pub invariant-loop-read : goal.invariant-loop-read
 invariant-loop-read l = record {

@@ -7,7 +7,7 @@ use Rattle.x509_der.specs.Unsigned.{unsigned_number}
 use Rattle.x509_lists.specs.FindRevoked.{first_of, serial_numbers}
 use Rattle.x509_lists.specs.RevokedCertificate.{revoked_of}
 use Rattle.x509_lists.specs.declared.revoked_certificate.RevokedCertificate.{RevokedCertificate}
-use Rattle.x509_lists.proofs.tbs_cert_list.TbsCertList.find_revoked.Goals as goal
+use Rattle.x509_lists.proofs.find_revoked.TbsCertList.find_revoked.Goals as goal
 
 seen_from : (n i : ℕ) (es : List RevokedCertificate) → position_from (λ r. unsigned_number r.user_certificate == n) i es ≡ position_from (λ m. m == n) i (serial_numbers (map revoked_of es))
 seen_from n i [] = refl
