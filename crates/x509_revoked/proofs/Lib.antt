@@ -5,3 +5,5 @@ pub mod Sorting
 pub mod Codes
 pub mod Filled
 pub mod Placed
+pub mod Heads
+pub mod HeadedOrder

@@ -2,6 +2,11 @@
 use Rattle.std.specs.Prelude.{ℕ, ◌<◌, ◌≤◌, ◌+◌, List, [], ◌∷◌, Option, Some, None, length, cond, ◌==◌, slice_index_or}
 use Rattle.x509_der.specs.Unsigned.{unsigned_number}
 use Rattle.x509_revoked.specs.declared.entry.Entry.{Entry}
+use Rattle.x509_revoked.specs.declared.headed_serial.HeadedSerial.{HeadedSerial}
+
+-- the serial as a number
+abbrev pub number_of : HeadedSerial → ℕ
+number_of serial = unsigned_number serial.serial
 
 -- a serial as a number, and where its entry stands: its position on the list, or the offset at which it begins
 pub record Indexed : Type 0 where
@@ -9,7 +14,7 @@ pub record Indexed : Type 0 where
   pub position : ℕ
 
 abbrev pub indexed : Entry → Indexed
-indexed e = record { number = unsigned_number e.serial; position = e.position }
+indexed e = record { number = number_of e.serial; position = e.position }
 
 -- the numbers with their positions, from this one on
 abbrev pub indexed_from : ℕ → List ℕ → List Indexed

@@ -1,6 +1,8 @@
 pub mod Entries
 pub mod Index
+pub mod SerialHead
 pub mod SerialOrder
+pub mod HeadedEntries
 pub mod Beginnings
 pub mod IndexFile
 pub mod IndexOf

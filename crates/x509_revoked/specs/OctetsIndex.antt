@@ -6,6 +6,7 @@ use Rattle.x509_lists.specs.RevokedCertificate.{Revoked, revoked_of}
 use Rattle.x509_lists.specs.declared.revoked_certificate.RevokedCertificate.{RevokedCertificate}
 use Rattle.x509_revoked.specs.Beginnings.{beginnings}
 use Rattle.x509_revoked.specs.Entries.{Indexed}
+use Rattle.x509_revoked.specs.HeadedEntries.{offsets_of}
 use Rattle.x509_revoked.specs.IndexOf.{placed}
 use Rattle.x509_revoked.specs.declared.entries_index.EntriesIndex.{EntriesIndex}
 
@@ -15,7 +16,7 @@ indexed_entries index = entries_in index.octets.now
 
 -- its offsets, each with the serial there
 abbrev pub placed_in : EntriesIndex → List Indexed
-placed_in index = map (placed index.octets.now) index.offsets.items
+placed_in index = map (placed index.octets.now) (offsets_of index.entries.items)
 
 -- where the first entry with the number begins; none where none has it
 abbrev pub BeginsFirst : EntriesIndex → ℕ → Option ℕ → Type 0

@@ -6,9 +6,12 @@ ghost use Rattle.x509_fields.specs.declared.error.X509Error.TheVariants.{OutOfMe
 ghost use Rattle.x509_lists.specs.EntriesIn.{HoldsEntries};
 ghost use Rattle.x509_lists.specs.RevokedEntries.{octets_of, entries_of};
 ghost use Rattle.x509_revoked.specs.declared.index_error.IndexError.TheVariants as errors;
+ghost use Rattle.x509_revoked.specs.HeadedEntries.{AreHeaded, offsets_of};
 ghost use Rattle.x509_revoked.specs.IndexOf.{AreIndexOf, IsFileOf};
 
-use crate::beginnings::{are_beginnings, read_beginnings};
+use crate::beginnings::{are_beginnings, entries_from, read_beginnings};
+use crate::headed_entry::HeadedEntry;
+use crate::headed_serial::HeadedSerial;
 use crate::index_error::IndexError;
 use crate::index_file::{read_index, write_index};
 use crate::ordered::Ordered;
@@ -20,9 +23,10 @@ use x509_der::{FromDer, Tries, UnsignedBytes};
 use x509_fields::X509Error;
 use x509_lists::{RevokedCertificate, RevokedEntries};
 
-/// The offsets at which the entries of a list begin in their octets, in the order of the serials.
+/// Where the entries of a list begin in their octets, in the order of the serials, each with the head of its serial: how many octets it
+/// has, and the first seven of them. Where heads differ, a look-up reads no octets; where they are equal, the octets decide.
 ///
-/// It holds four octets for each entry, and borrows the octets that it is of: so it can't be asked of another list. It can be written
+/// It holds 16 octets for each entry, and borrows the octets that it is of: so it can't be asked of another list. It can be written
 /// out and read back; octets that aren't the index of the list are refused then.
 ///
 /// It goes by serials alone. On an indirect list entries may be of other issuers (RFC 5280, section 5.3.3), and on a delta list
@@ -30,9 +34,10 @@ use x509_lists::{RevokedCertificate, RevokedEntries};
 #[derive(Debug, Drop)]
 pub struct EntriesIndex<'a> {
     octets: &'a [u8],
-    offsets: Vec<u32>,
-    ghost holds: { HoldsEntries octets.now (length offsets.items) },
-    ghost is_index: { AreIndexOf octets.now offsets.items },
+    entries: Vec<HeadedEntry>,
+    ghost holds: { HoldsEntries octets.now (length entries.items) },
+    ghost is_index: { AreIndexOf octets.now (offsets_of entries.items) },
+    ghost are_headed: { AreHeaded octets.now entries.items },
 }
 
 impl<'a> EntriesIndex<'a> {
@@ -48,29 +53,33 @@ impl<'a> EntriesIndex<'a> {
         alloc: Global,
         entries: &RevokedEntries<'a>,
     ) -> Result<EntriesIndex<'a>, IndexError>
-        ensures { MatchResult result (λ index. indexed_entries index ≡ entries_of entries.now) (λ e. (e ≡ errors.OutOfMemory) ⊎ ((e ≡ errors.TooLong) × (2 ^ 32 ≤ length (octets_of entries.now)))) }
+        ensures { MatchResult result (λ index. (index.octets.now ≡ octets_of entries.now) × (indexed_entries index ≡ entries_of entries.now))
+            (λ e. (e ≡ errors.OutOfMemory) ⊎ ((e ≡ errors.TooLong) × (2 ^ 32 ≤ length (octets_of entries.now)))) }
     {
         let octets = entries.as_bytes();
         if octets.len() > u32::MAX as usize {
             return Err(IndexError::TooLong);
         }
-        let mut offsets = read_beginnings(alloc, octets, entries.len())?;
-        sort(octets, &mut offsets);
-        Ok(EntriesIndex { octets, offsets })
+        let mut indexed = read_beginnings(alloc, octets, entries.len())?;
+        sort(octets, &mut indexed);
+        Ok(EntriesIndex {
+            octets,
+            entries: indexed,
+        })
     }
 
     /// How many entries the list has.
     pub fn len(&self) -> usize
         ensures { result ≡ length (indexed_entries self.now) }
     {
-        self.offsets.len()
+        self.entries.len()
     }
 
     /// Whether the list has no entry.
     pub fn is_empty(&self) -> bool
         ensures { result ≡ (length (indexed_entries self.now) == 0) }
     {
-        self.offsets.is_empty()
+        self.entries.is_empty()
     }
 
     /// The first entry of the list with this serial, as a number (RFC 5280, section 5.1.2.6); none where no entry has it. Its extensions
@@ -116,7 +125,7 @@ impl<'a> EntriesIndex<'a> {
     pub fn to_bytes(&self, alloc: Global) -> Result<Vec<u8>, IndexError>
         ensures { MatchResult result (λ file. IsFileOf self.now.octets.now file.items) (λ e. e ≡ errors.OutOfMemory) }
     {
-        write_index(alloc, self.octets.len(), self.offsets.as_slice())
+        write_index(alloc, self.octets.len(), self.entries.as_slice())
     }
 
     /// The index of a list from what [`EntriesIndex::to_bytes`] wrote.
@@ -130,28 +139,31 @@ impl<'a> EntriesIndex<'a> {
         entries: &RevokedEntries<'a>,
         file: &[u8],
     ) -> Result<EntriesIndex<'a>, IndexError>
-        ensures { MatchResult result (λ index. (indexed_entries index ≡ entries_of entries.now) × IsFileOf index.octets.now file.now) (λ e. (e ≡ errors.OutOfMemory) ⊎ (((e ≡ errors.TooLong) × (2 ^ 32 ≤ length (octets_of entries.now))) ⊎ (IsFileOf (octets_of entries.now) file.now → ⊥))) }
+        ensures { MatchResult result
+            (λ index. (index.octets.now ≡ octets_of entries.now) × (indexed_entries index ≡ entries_of entries.now) × IsFileOf index.octets.now file.now)
+            (λ e. (e ≡ errors.OutOfMemory)
+            ⊎ (((e ≡ errors.TooLong) × (2 ^ 32 ≤ length (octets_of entries.now))) ⊎ (IsFileOf (octets_of entries.now) file.now → ⊥))) }
     {
         let octets = entries.as_bytes();
         if octets.len() > u32::MAX as usize {
             return Err(IndexError::TooLong);
         }
-        let offsets = match read_index(alloc, entries.len(), octets.len(), file) {
+        let mut offsets = match read_index(alloc, entries.len(), octets.len(), file) {
             Ok(offsets) => offsets,
             Err(e) => return Err(e),
         };
-        let mut ascending = match offsets.clone() {
-            Ok(ascending) => ascending,
-            Err(_) => return Err(IndexError::OutOfMemory),
-        };
-        ascending.sort_unstable();
-        if !are_beginnings(octets, entries.len(), ascending.as_slice()) {
+        let indexed = entries_from(alloc, octets, offsets.as_slice())?;
+        offsets.sort_unstable();
+        if !are_beginnings(octets, entries.len(), offsets.as_slice()) {
             return Err(IndexError::NotTheEntries);
         }
-        if !are_in_order(octets, offsets.as_slice()) {
+        if !are_in_order(octets, indexed.as_slice()) {
             return Err(IndexError::NotInOrder);
         }
-        Ok(EntriesIndex { octets, offsets })
+        Ok(EntriesIndex {
+            octets,
+            entries: indexed,
+        })
     }
 }
 
@@ -161,15 +173,20 @@ impl Ordered for EntriesIndex<'_> {
     ghost indexed = { placed_in };
 
     fn count(&self) -> usize {
-        self.offsets.len()
+        self.entries.len()
     }
 
-    fn compare(&self, entry: usize, serial: &UnsignedBytes<'_>, compared: &mut u32) -> Ordering {
+    fn compare(&self, entry: usize, serial: &HeadedSerial<'_>, compared: &mut u32) -> Ordering {
         *compared += 1;
-        serial_from(self.octets, self.offsets[entry]).cmp(serial)
+        let there = self.entries[entry];
+        let heads = there.head.cmp(&serial.head());
+        if heads.is_ne() {
+            return heads;
+        }
+        serial_from(self.octets, there.offset).cmp(serial.serial())
     }
 
     fn place(&self, entry: usize) -> usize {
-        self.offsets[entry] as usize
+        self.entries[entry].offset as usize
     }
 }

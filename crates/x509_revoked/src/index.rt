@@ -8,6 +8,7 @@ ghost use Rattle.x509_lists.specs.TbsCertList.{tbs_list_of};
 ghost use Rattle.x509_revoked.specs.Entries.{indexed, AreInOrder};
 
 use crate::entry::Entry;
+use crate::headed_serial::HeadedSerial;
 use crate::ordered::Ordered;
 use crate::search::search;
 use std::cmp::Ordering;
@@ -20,7 +21,7 @@ mod tests;
 
 /// The serials of a list of revoked certificates, in order, each with the position of its entry on the list.
 ///
-/// It holds 24 bytes for each entry, and borrows the bytes that the list was read from, not the list.
+/// It holds 32 octets for each entry, and borrows the bytes that the list was read from, not the list.
 ///
 /// It goes by serials alone. On an indirect list entries may be of other issuers (RFC 5280, section 5.3.3), and on a delta list
 /// one may say that a certificate is to be taken off (section 5.3.1): there the entry that is found says which.
@@ -93,7 +94,7 @@ impl Ordered for RevocationIndex<'_> {
         self.entries.len()
     }
 
-    fn compare(&self, entry: usize, serial: &UnsignedBytes<'_>, compared: &mut u32) -> Ordering {
+    fn compare(&self, entry: usize, serial: &HeadedSerial<'_>, compared: &mut u32) -> Ordering {
         self.entries[entry].compare(serial, compared)
     }
 

@@ -3,8 +3,10 @@
 ghost use Rattle.std.specs.Prelude.{◌≡◌, ◌<◌, ◌^◌, ◌++◌, length, MatchResult, ◌⊎◌, ℕ, List};
 ghost use Rattle.std.specs.List.{All};
 ghost use Rattle.x509_revoked.specs.declared.index_error.IndexError.TheVariants.{OutOfMemory};
+ghost use Rattle.x509_revoked.specs.HeadedEntries.{offsets_of};
 ghost use Rattle.x509_revoked.specs.IndexFile.{head_octets, index_octets, offset_octets, wrong_head};
 
+use crate::headed_entry::HeadedEntry;
 use crate::index_error::IndexError;
 use std::alloc::Global;
 
@@ -36,7 +38,8 @@ fn head_error(found: &[u8; 24], wanted: &[u8; 24]) -> IndexError
 
 /// The octets behind the head of an index of so many entries, in so many octets.
 fn behind_head(entries: usize, octets: usize, file: &[u8]) -> Result<&[u8], IndexError>
-    ensures { MatchResult result (λ body. file.now ≡ head_octets entries octets ++ body.now) (λ e. (body : List ℕ) → file.now ≡ head_octets entries octets ++ body → ⊥) }
+    ensures { MatchResult result (λ body. file.now ≡ head_octets entries octets ++ body.now)
+        (λ e. (body : List ℕ) → file.now ≡ head_octets entries octets ++ body → ⊥) }
 {
     let wanted = head(entries, octets);
     match file.split_first_chunk::<24>() {
@@ -52,7 +55,8 @@ fn behind_head(entries: usize, octets: usize, file: &[u8]) -> Result<&[u8], Inde
 
 /// The offsets that octets write, in four octets each, and what is left behind them.
 fn take_offsets(alloc: Global, octets: &[u8]) -> Result<(Vec<u32>, &[u8]), IndexError>
-    ensures { MatchResult result (λ x. (octets.now ≡ offset_octets x.0.items ++ x.1.now) × (length x.1.now < 4) × All (λ o. o < 2 ^ 32) x.0.items) (λ e. e ≡ OutOfMemory) }
+    ensures { MatchResult result (λ x. (octets.now ≡ offset_octets x.0.items ++ x.1.now) × (length x.1.now < 4) × All (λ o. o < 2 ^ 32) x.0.items)
+        (λ e. e ≡ OutOfMemory) }
 {
     let mut offsets = match Vec::with_capacity(alloc, octets.len() / 4) {
         Ok(offsets) => offsets,
@@ -75,7 +79,9 @@ pub(crate) fn read_index(
     octets: usize,
     file: &[u8],
 ) -> Result<Vec<u32>, IndexError>
-    ensures { MatchResult result (λ offsets. (length offsets.items ≡ entries) × (file.now ≡ index_octets octets offsets.items) × All (λ o. o < 2 ^ 32) offsets.items) (λ e. (e ≡ OutOfMemory) ⊎ ((offsets : List ℕ) → length offsets ≡ entries → file.now ≡ index_octets octets offsets → ⊥)) }
+    ensures { MatchResult result
+        (λ offsets. (length offsets.items ≡ entries) × (file.now ≡ index_octets octets offsets.items) × All (λ o. o < 2 ^ 32) offsets.items)
+        (λ e. (e ≡ OutOfMemory) ⊎ ((offsets : List ℕ) → length offsets ≡ entries → file.now ≡ index_octets octets offsets → ⊥)) }
 {
     let body = match behind_head(entries, octets, file) {
         Ok(body) => body,
@@ -97,27 +103,27 @@ pub(crate) fn read_index(
     Ok(offsets)
 }
 
-/// The octets of the index of entries that take so many octets, with these offsets.
+/// The octets of the index of these entries, which take so many octets.
 pub(crate) fn write_index(
     alloc: Global,
     octets: usize,
-    offsets: &[u32],
+    entries: &[HeadedEntry],
 ) -> Result<Vec<u8>, IndexError>
-    ensures { MatchResult result (λ file. file.items ≡ index_octets octets offsets.now) (λ e. e ≡ OutOfMemory) }
+    ensures { MatchResult result (λ file. file.items ≡ index_octets octets (offsets_of entries.now)) (λ e. e ≡ OutOfMemory) }
 {
-    let size = offsets.len().saturating_mul(4).saturating_add(24);
+    let size = entries.len().saturating_mul(4).saturating_add(24);
     let mut file = match Vec::with_capacity(alloc, size) {
         Ok(file) => file,
         Err(_) => return Err(IndexError::OutOfMemory),
     };
     if file
-        .extend_from_slice(&head(offsets.len(), octets))
+        .extend_from_slice(&head(entries.len(), octets))
         .is_err()
     {
         return Err(IndexError::OutOfMemory);
     }
-    for offset in offsets {
-        if file.extend_from_slice(&offset.to_be_bytes()).is_err() {
+    for entry in entries {
+        if file.extend_from_slice(&entry.offset.to_be_bytes()).is_err() {
             return Err(IndexError::OutOfMemory);
         }
     }

@@ -5,6 +5,8 @@
 mod beginnings;
 mod entries_index;
 mod entry;
+mod headed_entry;
+mod headed_serial;
 mod index;
 mod index_error;
 mod index_file;

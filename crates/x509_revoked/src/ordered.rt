@@ -2,11 +2,10 @@
 
 ghost use Rattle.std.specs.Prelude.{◌≡◌, ◌<◌, ◌+◌, ◌^◌, List, length};
 ghost use Rattle.std.specs.Ordering.{nat_cmp};
-ghost use Rattle.x509_der.specs.Unsigned.{unsigned_number};
-ghost use Rattle.x509_revoked.specs.Entries.{Indexed, number_at, position_at};
+ghost use Rattle.x509_revoked.specs.Entries.{Indexed, number_at, number_of, position_at};
 
+use crate::headed_serial::HeadedSerial;
 use std::cmp::Ordering;
-use x509_der::UnsignedBytes;
 
 /// What can be searched by halves: entries, each with its serial and the place where it stands.
 pub(crate) trait Ordered {
@@ -18,10 +17,10 @@ pub(crate) trait Ordered {
         ensures { result ≡ length (indexed self.now) };
 
     /// Compares the serial of an entry with this one, and counts it: the one way to look at an entry's serial.
-    fn compare(&self, entry: usize, serial: &UnsignedBytes<'_>, compared: &mut u32) -> Ordering
+    fn compare(&self, entry: usize, serial: &HeadedSerial<'_>, compared: &mut u32) -> Ordering
         requires within { entry < length (indexed self.now) }
         requires fits { compared.old + 1 < 2 ^ 32 }
-        ensures is { result ≡ nat_cmp (number_at (indexed self.now) entry) (unsigned_number serial.now) }
+        ensures is { result ≡ nat_cmp (number_at (indexed self.now) entry) (number_of serial.now) }
         ensures counted { compared.new ≡ compared.old + 1 };
 
     /// Where an entry stands.

@@ -5,6 +5,7 @@ ghost use Rattle.x509_der.specs.Unsigned.{unsigned_number};
 ghost use Rattle.x509_revoked.specs.Entries.{position_in, AreInOrder};
 ghost use Rattle.x509_revoked.specs.Index.{binary_digits};
 
+use crate::headed_serial::HeadedSerial;
 use crate::ordered::Ordered;
 use x509_der::UnsignedBytes;
 
@@ -15,6 +16,7 @@ pub(crate) fn search<R: Ordered>(entries: &R, serial: &UnsignedBytes<'_>) -> (Op
     ensures least { 0 < length (R.indexed entries.now) → 0 < result.1 }
     ensures most { result.1 ≤ binary_digits (length (R.indexed entries.now)) + 1 }
 {
+    let sought = HeadedSerial::new(*serial);
     let mut compared = 0;
     // Those before `first` are less, and those from `first + size` on are not.
     let mut first = 0;
@@ -22,7 +24,10 @@ pub(crate) fn search<R: Ordered>(entries: &R, serial: &UnsignedBytes<'_>) -> (Op
     let mut size = count;
     'halves: while size > 0 {
         let half = size / 2;
-        if entries.compare(first + half, serial, &mut compared).is_lt() {
+        if entries
+            .compare(first + half, &sought, &mut compared)
+            .is_lt()
+        {
             first += half + 1;
             size -= half + 1;
         } else {
@@ -32,7 +37,7 @@ pub(crate) fn search<R: Ordered>(entries: &R, serial: &UnsignedBytes<'_>) -> (Op
     if first == count {
         return (None, compared);
     }
-    if entries.compare(first, serial, &mut compared).is_ne() {
+    if entries.compare(first, &sought, &mut compared).is_ne() {
         return (None, compared);
     }
     (Some(entries.place(first)), compared)

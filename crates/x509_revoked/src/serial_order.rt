@@ -3,8 +3,11 @@
 ghost use Rattle.std.specs.Prelude.{◌≡◌, ◌↔◌, IsTrue, drop};
 ghost use Rattle.std.specs.List.Sorted.{IsPermutation, IsSorted};
 ghost use Rattle.x509_der.specs.Unsigned.{unsigned_number};
-ghost use Rattle.x509_revoked.specs.SerialOrder.{by_serial, number_at_offset, serial_number};
+ghost use Rattle.x509_revoked.specs.HeadedEntries.{IsHeaded, by_head};
+ghost use Rattle.x509_revoked.specs.SerialOrder.{number_at_offset, serial_number};
 
+use crate::headed_entry::HeadedEntry;
+use crate::headed_serial::head_of;
 use std::cmp::Ordering;
 use x509_der::{Place, Tries, UnsignedBytes};
 use x509_fields::{sequence_at, serial_at};
@@ -42,28 +45,44 @@ pub(crate) fn serial_from<'a>(octets: &'a [u8], offset: u32) -> UnsignedBytes<'a
     first_serial(octets_from(octets, offset as usize))
 }
 
-/// The order of the entries that begin at two offsets: by their serials as numbers, and then by the offsets.
-fn compare_at(octets: &[u8], a: u32, b: u32) -> Ordering
-    ensures { result ≡ by_serial octets.now a b }
+/// The entry that begins at an offset.
+pub(crate) fn entry_at(octets: &[u8], offset: u32) -> HeadedEntry
+    ensures offset { result.offset ≡ offset }
+    ensures headed { IsHeaded octets.now result }
 {
-    let first = serial_from(octets, a);
-    first.cmp(&serial_from(octets, b)).then(a.cmp(&b))
+    HeadedEntry {
+        head: head_of(&serial_from(octets, offset)),
+        offset,
+    }
 }
 
-/// Puts offsets in the order of the serials there.
-pub(crate) fn sort(octets: &[u8], offsets: &mut Vec<u32>)
-    ensures permutation { IsPermutation offsets.old.items offsets.new.items }
-    ensures sorted { IsSorted (by_serial octets.now) offsets.new.items }
+/// The order of two entries: by their heads, and where these are equal, by their serials as numbers, and then by the offsets.
+fn compare_at(octets: &[u8], a: &HeadedEntry, b: &HeadedEntry) -> Ordering
+    ensures { result ≡ by_head octets.now a.now b.now }
 {
-    offsets.sort_unstable_by(|a, b| compare_at(octets, *a, *b));
+    let heads = a.head.cmp(&b.head);
+    if heads.is_ne() {
+        return heads;
+    }
+    let first = serial_from(octets, a.offset);
+    let serials = first.cmp(&serial_from(octets, b.offset));
+    serials.then(a.offset.cmp(&b.offset))
 }
 
-/// Whether offsets are in that order.
-pub(crate) fn are_in_order(octets: &[u8], offsets: &[u32]) -> bool
-    ensures { IsTrue result ↔ IsSorted (by_serial octets.now) offsets.now }
+/// Puts entries in this order.
+pub(crate) fn sort(octets: &[u8], entries: &mut Vec<HeadedEntry>)
+    ensures permutation { IsPermutation entries.old.items entries.new.items }
+    ensures sorted { IsSorted (by_head octets.now) entries.new.items }
 {
-    for entry in 1..offsets.len() {
-        if compare_at(octets, offsets[entry], offsets[entry - 1]).is_lt() {
+    entries.sort_unstable_by(|a, b| compare_at(octets, a, b));
+}
+
+/// Whether entries are in this order.
+pub(crate) fn are_in_order(octets: &[u8], entries: &[HeadedEntry]) -> bool
+    ensures { IsTrue result ↔ IsSorted (by_head octets.now) entries.now }
+{
+    for entry in 1..entries.len() {
+        if compare_at(octets, &entries[entry], &entries[entry - 1]).is_lt() {
             return false;
         }
     }

@@ -33,7 +33,9 @@ fn find_for<'a>(
     issuers: &[X509Name<'a>],
     serial: &UnsignedBytes<'_>,
 ) -> Result<Option<RevokedCertificate<'a>>, Stop>
-    ensures { IfOk result (λ entry. option_map revoked_of entry ≡ first_for (name_of tbs.now.issuer).raw (tbs_entries_of tbs.now).revoked_certificates (map name_of issuers.now) (unsigned_number serial.now)) }
+    ensures { IfOk result
+        (λ entry. option_map revoked_of entry
+        ≡ first_for (name_of tbs.now.issuer).raw (tbs_entries_of tbs.now).revoked_certificates (map name_of issuers.now) (unsigned_number serial.now)) }
 {
     for issuer in issuers {
         match tbs.find_for(alloc, issuer, serial) {

@@ -44,7 +44,9 @@ fn digits_in(alloc: Global, word: &str) -> Result<Vec<u8>, Stop>
 
 /// The serial that a word writes in hex digits, with colons between them or none; none where it writes none.
 pub fn parse_serial<'w>(alloc: Global, word: &'w str) -> Result<Option<Serial<'w>>, Stop>
-    ensures { MatchResult result (λ serial. MatchOption serial (serial_in word.now ≡ None) (λ s. (s.word.now ≡ word.now) × (serial_in word.now ≡ Some (number_of s)))) (λ stop. stop ≡ Memory) }
+    ensures { MatchResult result
+        (λ serial. MatchOption serial (serial_in word.now ≡ None) (λ s. (s.word.now ≡ word.now) × (serial_in word.now ≡ Some (number_of s))))
+        (λ stop. stop ≡ Memory) }
 {
     let digits = digits_in(alloc, word)?;
     if digits.is_empty() {

@@ -12,7 +12,7 @@ halves-preserved-then-is_lt g c =
     let n = unsigned_number c.args.serial.now in
     let k = c.halves.first + c.halves.size / 2 in
     let within : k < length xs = omega (arith, c.halves.invariant.within, c.halves-test.true) in
-    let less : number_at xs k < n = grind (arith, nat_tests, c.compare.ensures.is, c.is_lt.ensures, c.if-is_lt.true) in
+    let less : number_at xs k < n = grind (arith, nat_tests, c.compare.ensures.is, c.new-sought.ensures, c.is_lt.ensures, c.if-is_lt.true) in
     let digit = digits_halved (c.halves.size - (c.halves.size / 2 + 1)) c.halves.size (omega (arith, c.halves-test.true)) (omega arith) in
     record {
       within = omega (arith, c.halves.invariant.within, c.halves-test.true);
@@ -29,7 +29,7 @@ halves-preserved g c =
     let n = unsigned_number c.args.serial.now in
     let k = c.halves.first + c.halves.size / 2 in
     let within : k < length xs = omega (arith, c.halves.invariant.within, c.halves-test.true) in
-    let not_less : n ≤ number_at xs k = grind (arith, nat_tests, c.compare.ensures.is, c.is_lt.ensures, c.if-is_lt.false) in
+    let not_less : n ≤ number_at xs k = grind (arith, nat_tests, c.compare.ensures.is, c.new-sought.ensures, c.is_lt.ensures, c.if-is_lt.false) in
     let digit = digits_halved (c.halves.size / 2) c.halves.size (omega (arith, c.halves-test.true)) (omega arith) in
     record {
       within = omega (arith, c.halves.invariant.within, c.halves-test.true);
@@ -53,7 +53,7 @@ returns-then-is_ne-clause-found g c =
     let k = c.halves.first in
     let within : k < length xs = omega (arith, c.halves.invariant.within, c.count-count.ensures, c.if-first-count.false) in
     let not_less : n ≤ number_at xs k = c.halves.invariant.not_less k (omega (arith, c.halves-test.false)) within in
-    let more : n + 1 ≤ number_at xs k = grind (arith, nat_tests, not_less, c.compare-2.ensures.is, c.is_ne.ensures, c.if-is_ne.true) in
+    let more : n + 1 ≤ number_at xs k = grind (arith, nat_tests, not_less, c.compare-2.ensures.is, c.new-sought.ensures, c.is_ne.ensures, c.if-is_ne.true) in
     sym (found_nowhere xs n (λ j lt same. elim (cases_lt j k) [
       | inl before ↦ omega (arith, same, c.halves.invariant.less j before)
       | inr from ↦ omega (arith, same, not_less_from xs c.requires (n + 1) k more j from lt)
@@ -65,6 +65,6 @@ returns-clause-found g c =
     let n = unsigned_number c.args.serial.now in
     let k = c.halves.first in
     let within : k < length xs = omega (arith, c.halves.invariant.within, c.count-count.ensures, c.if-first-count.false) in
-    let same : number_at xs k ≡ n = grind (arith, nat_tests, c.compare-2.ensures.is, c.is_ne.ensures, c.if-is_ne.false) in
+    let same : number_at xs k ≡ n = grind (arith, nat_tests, c.compare-2.ensures.is, c.new-sought.ensures, c.is_ne.ensures, c.if-is_ne.false) in
     let found : position_in xs n ≡ Some (position_at xs k) = found_first xs n k within same c.halves.invariant.less in
     sym (found ∙ ap Some (sym c.place.ensures))

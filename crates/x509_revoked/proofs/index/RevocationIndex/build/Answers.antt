@@ -7,6 +7,7 @@ use Rattle.x509_lists.specs.FindRevoked.{serial_numbers}
 use Rattle.x509_lists.specs.RevokedCertificate.{revoked_of}
 use Rattle.x509_lists.specs.declared.revoked_certificate.RevokedCertificate.{RevokedCertificate}
 use Rattle.x509_revoked.specs.Entries.{indexed, indexed_from}
+use Rattle.x509_revoked.proofs.HeadedOrder.{indexed_sorted}
 use Rattle.x509_revoked.proofs.Least.{indexed_more, length_indexed, answers_first}
 use Rattle.x509_revoked.proofs.Ranked.{ranked_sorted, ties_of, order_of}
 use Rattle.x509_revoked.proofs.index.RevocationIndex.build.Goals as goal
@@ -39,7 +40,10 @@ loop-certificate-preserved c =
     pushed ∙ ap (λ xs. xs ++ indexed entry ∷ []) so_far ∙ ap (λ x. indexed_from 0 before ++ x ∷ []) one ∙ sym (indexed_more 0 before number) ∙ ap (indexed_from 0) (sym more)
 
 pub invariant_of-result : goal.invariant_of-result
-invariant_of-result c = record { in_order = order_of _ (ranked_sorted indexed c.sort_unstable.new.self.items c.sort_unstable.ensures.sorted) }
+invariant_of-result c = record {
+  in_order = order_of _
+      (ranked_sorted indexed c.sort_unstable.new.self.items (indexed_sorted c.sort_unstable.new.self.items c.sort_unstable.ensures.sorted));
+}
 
 pub returns : goal.returns
 unfolding numbers_of
@@ -54,5 +58,6 @@ returns c =
     rw (← c.as_slice-revoked.ensures) record {
       count = length_permutation held sorted c.sort_unstable.ensures.permutation ∙ sym (length-map held indexed) ∙ ap length all ∙ length_indexed 0 numbers;
       entries = moved;
-      answers = answers_first (map indexed sorted) numbers moved (ties_of (map indexed sorted) (ranked_sorted indexed sorted c.sort_unstable.ensures.sorted));
+      answers = answers_first (map indexed sorted) numbers moved
+          (ties_of (map indexed sorted) (ranked_sorted indexed sorted (indexed_sorted sorted c.sort_unstable.ensures.sorted)));
     }
