@@ -1,5 +1,6 @@
 -- The elements of an object, named by the reader that it is seen by, and a mark where that refuses it.
-use Rattle.std.specs.Prelude.{ℕ, ◌-◌, ◌&&◌, nat_lt, nat_le, Bool, true, List, [], ◌∷◌, ◌++◌, Option, Some, None, Result, Ok, Err, codes, length, map, if◌then◌else◌}
+use Rattle.std.specs.Prelude.{ℕ, ◌-◌, ◌&&◌, nat_lt, nat_le, Bool, true, List, [], ◌∷◌, ◌++◌, Option, Some, None, Result, Ok, Err, codes, length, map}
+use Rattle.std.specs.Prelude.{if◌then◌else◌}
 use Rattle.x509_certs.specs.Certificate.{certificate}
 use Rattle.x509_der.specs.Plan.{Outcome}
 use Rattle.x509_der.specs.Words.{refusal_word}

@@ -15,8 +15,9 @@ use Rattle.x509_report_objects.specs.Objects.{object_told}
 use Rattle.x509_report_objects.specs.Places.{Found, Wishes}
 use Rattle.x509_report_objects.specs.declared.objects.Kind.{Kind}
 use Rattle.x509_report_objects.specs.declared.objects.Kind.TheVariants as kinds
-use Rattle.x509_report.specs.Dumps.{dump_lines, view_of}
-use Rattle.x509_report.specs.Texts.{said}
+use Rattle.x509_report.specs.Dumps.{view_of}
+use Rattle.x509_report.specs.Sections.{dump_told}
+use Rattle.x509_report.specs.Texts.{object_said, said}
 use Rattle.x509_report.specs.Told.{Told}
 use Rattle.x509_report.specs.declared.options.Asked.{Asked}
 use Rattle.x509_report.specs.declared.options.Form.{Form}
@@ -53,15 +54,15 @@ members_behind a form p octets (Some kinds.Request) = []
 members_behind a form p octets None = []
 
 -- the elements of the octets
-abbrev pub dump_behind : Asks → List ℕ → List (List ℕ)
-dump_behind a octets = if a.dump then dump_lines (view_of a.wishes octets) octets else []
+abbrev pub dump_behind : Asks → Form → List ℕ → List (List ℕ)
+dump_behind a form octets = if a.dump then dump_told form (view_of a.wishes octets) octets else []
 
 -- what stands behind the line of an object of this kind
 abbrev pub lines_behind : Asks → Form → Found → List ℕ → Option Kind → List (List ℕ)
-lines_behind a form p octets kind = members_behind a form p octets kind ++ dump_behind a octets
+lines_behind a form p octets kind = members_behind a form p octets kind ++ dump_behind a form octets
 
 abbrev pub told_of : Asks → Form → Found → List ℕ → Option Kind × Json → Told
-told_of a form p octets r = record { taken = is_some r.0; lines = said form r.1 ∷ lines_behind a form p octets r.0 }
+told_of a form p octets r = record { taken = is_some r.0; lines = object_said form r.1 ++ lines_behind a form p octets r.0 }
 
 unfoldable pub lines_of_object : Asks → Form → Found → List ℕ → Told
 lines_of_object a form p octets = told_of a form p octets (object_told a.wishes p octets)

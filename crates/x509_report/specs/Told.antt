@@ -2,7 +2,7 @@
 use Rattle.std.specs.Prelude.{◌≡◌, ℕ, ◌≤◌, List, [], ◌∷◌, ◌++◌, Bool, true, ◌&&◌, Option, Result, MatchResult, flat_map, length, take}
 use Rattle.std.specs.Io.KnownBytes.{Appends}
 use Rattle.json.specs.Json.{Json}
-use Rattle.x509_report.specs.Texts.{said}
+use Rattle.x509_report.specs.Texts.{object_said}
 use Rattle.x509_report.specs.declared.options.Form.{Form}
 use Rattle.x509_report.specs.declared.stop.Stop.{Stop}
 use Rattle.x509_report.specs.declared.stop.Stop.TheVariants as stops
@@ -17,9 +17,9 @@ nothing = record { taken = true; lines = [] }
 abbrev pub both : Told → Told → Told
 both a b = record { taken = a.taken && b.taken; lines = a.lines ++ b.lines }
 
--- one line, of an object that was taken, or wasn't
+-- one object, that was taken, or wasn't
 abbrev pub one : Form → Bool → Json → Told
-one form taken report = record { taken = taken; lines = said form report ∷ [] }
+one form taken report = record { taken = taken; lines = object_said form report }
 
 abbrev pub text : List (List ℕ) → List ℕ
 text lines = flat_map (λ line. line) lines

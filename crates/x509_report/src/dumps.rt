@@ -6,7 +6,8 @@ ghost use Rattle.x509_lists.specs.CertificateList.{certificate_list};
 ghost use Rattle.x509_requests.specs.Request.{certification_request};
 ghost use Rattle.x509_dump.specs.Elements.{line_of};
 ghost use Rattle.x509_report_objects.specs.Attempts.{wishes_of};
-ghost use Rattle.x509_report.specs.Dumps.{dump_lines, element_lines, found_lines, mark_behind, mark_in, mark_text, marked, part_of, part_word, refusal_of, seen_by, seen_where, view_of};
+ghost use Rattle.x509_report.specs.Dumps.{dump_lines, element_lines, found_lines, holds, mark_behind, mark_in, mark_text, marked, part_of, part_word};
+ghost use Rattle.x509_report.specs.Dumps.{refusal_of, seen_by, seen_where, view_of};
 ghost use Rattle.x509_report.specs.Told.{Tells};
 
 use crate::printer::Printer;
@@ -140,7 +141,7 @@ fn as_request(alloc: Global, wanted: bool, view: View, octets: &[u8]) -> Result<
 
 /// Which of the readers that are wanted an object is seen by.
 #[tactic(auto, unfolding(crate::specs::Dumps::view_of))]
-fn view_of(alloc: Global, wishes: &Wishes, octets: &[u8]) -> Result<View, Stop>
+pub fn view_of(alloc: Global, wishes: &Wishes, octets: &[u8]) -> Result<View, Stop>
     ensures { IfOk result (λ view. view ≡ view_of (wishes_of wishes.now) octets.now) }
 {
     let view = as_certificate(alloc, wishes.certificates, View::Nothing, octets)?;
@@ -149,7 +150,7 @@ fn view_of(alloc: Global, wishes: &Wishes, octets: &[u8]) -> Result<View, Stop>
 }
 
 /// What the names of elements are those of.
-fn part_of(view: &View) -> Part
+pub fn part_of(view: &View) -> Part
     ensures { result ≡ part_of view.now }
 {
     match view {
@@ -159,7 +160,7 @@ fn part_of(view: &View) -> Part
 }
 
 /// What a reader reads, in a word.
-fn part_word(part: Part) -> &'static str
+pub fn part_word(part: Part) -> &'static str
     ensures { result.now ≡ part_word part }
 {
     match part {
@@ -180,19 +181,23 @@ fn push_mark(text: &mut String, part: Part, refusal: &Located<X509Error>) -> Res
     write!(text, "{at:>5}:^ no {kind}: {word}\n")
 }
 
+/// Whether a line holds an octet.
+pub fn holds(line: &DumpLine<'_>, at: usize) -> bool
+    ensures { result ≡ holds (line_of line.now) at }
+{
+    line.offset <= at && at - line.offset < line.octets.len()
+}
+
 /// Adds the mark, where the line holds the octet.
 fn push_mark_in(text: &mut String, view: &View, line: &DumpLine<'_>) -> Result<(), AllocError>
     ensures { OnOk result (string_bytes text.new ≡ string_bytes text.old ++ mark_in view.now (line_of line.now)) }
 {
     match view {
-        View::Refused(part, refusal) => {
-            let at = refusal.at;
-            if line.offset <= at && at - line.offset < line.octets.len() {
-                push_mark(text, *part, refusal)
-            } else {
-                Ok(())
-            }
-        }
+        View::Refused(part, refusal) => if holds(line, refusal.at) {
+            push_mark(text, *part, refusal)
+        } else {
+            Ok(())
+        },
         View::Nothing | View::Taken(_) => Ok(()),
     }
 }
@@ -264,7 +269,7 @@ fn text_behind(alloc: Global, view: &View, octets: &[u8]) -> Result<String, Allo
 }
 
 /// The elements of an object as it is seen.
-fn report_view<W: Write>(
+pub fn report_view<W: Write>(
     alloc: Global,
     printer: &mut Printer<W>,
     view: &View,
@@ -276,18 +281,4 @@ fn report_view<W: Write>(
     report_lines(alloc, printer, view, octets)?;
     let behind = text_behind(alloc, view, octets)?;
     printer.put_text(behind.as_str())
-}
-
-/// The elements of an object, named by the reader that it is seen by, and a mark where that refuses it.
-pub fn report_dump<W: Write>(
-    alloc: Global,
-    printer: &mut Printer<W>,
-    wishes: &Wishes,
-    octets: &[u8],
-) -> Result<(), Stop>
-    ensures lines { Tells result (W.contents printer.old.out) (W.contents printer.new.out) (dump_lines (view_of (wishes_of wishes.now) octets.now) octets.now) }
-    ensures form { printer.new.form ≡ printer.old.form }
-{
-    let view = view_of(alloc, wishes, octets)?;
-    report_view(alloc, printer, &view, octets)
 }

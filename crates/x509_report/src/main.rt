@@ -9,6 +9,7 @@ mod options;
 mod printer;
 mod progress;
 mod reports;
+mod sections;
 mod stop;
 
 use crate::files::{read_all, report_file};
@@ -21,6 +22,7 @@ use std::fs::File;
 use std::io::BufWriter;
 use std::process::ExitCode;
 use std::{env, io};
+use x509_report_pages::{FOOT, HEAD};
 
 /// Every object was taken.
 const TAKEN: u8 = 0;
@@ -43,6 +45,7 @@ fn report_files(rt: &HostRuntime, options: &Options<'_>) -> io::Result<u8> {
     let alloc: Global = rt.alloc();
     let out = BufWriter::new(alloc, Progress::new(rt, io::writer(rt)))?;
     let mut printer = Printer::new(alloc, options.form, out);
+    printer.put_around(&HEAD)?;
     let mut status = TAKEN;
     for file in &options.files {
         let octets = match read(rt, file) {
@@ -67,6 +70,7 @@ fn report_files(rt: &HostRuntime, options: &Options<'_>) -> io::Result<u8> {
             }
         }
     }
+    printer.put_around(&FOOT)?;
     printer.finish()?;
     Ok(status)
 }

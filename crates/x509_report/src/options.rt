@@ -11,6 +11,8 @@ pub enum Form {
     Text,
     /// One line of JSON an object.
     Json,
+    /// A page for a browser.
+    Html,
 }
 
 /// What is asked of every object.
@@ -51,6 +53,7 @@ fn command<'a>(alloc: Global) -> Result<Command<'a>, AllocError> {
     let strict = flag(alloc, "strict", "Refuse what a lenient rule was needed for");
     let entries = flag(alloc, "entries", "A line for each entry of a list");
     let dump = flag(alloc, "dump", "The elements of each object, for people");
+    let html = flag(alloc, "html", "A page for a browser, with the elements");
     let no_digest = flag(alloc, "no-digest", "Leave SHA-256 fingerprints out");
     let kind = Arg::new(alloc, "kind")
         .long("kind")
@@ -70,6 +73,7 @@ fn command<'a>(alloc: Global) -> Result<Command<'a>, AllocError> {
         .arg(strict)?
         .arg(entries)?
         .arg(dump)?
+        .arg(html)?
         .arg(no_digest)?
         .arg(kind)?
         .arg(file)
@@ -98,23 +102,29 @@ fn wishes_of(matches: &ArgMatches<'_>) -> Wishes {
     }
 }
 
-/// The options of these words, the first of which is the program's name. Where both forms are asked for, it is JSON; elements are told to
-/// people alone.
-pub fn parse_options<'a>(alloc: Global, words: &'a [String]) -> Result<Options<'a>, Error> {
-    let matches = command(alloc)?.try_get_matches_from(words)?;
-    let files = files_of(alloc, &matches)?;
-    let dump = matches.get_flag("dump");
-    let form = if matches.get_flag("json") && !dump {
+/// How reports are written. Elements are told to people alone.
+fn form_of(matches: &ArgMatches<'_>) -> Form {
+    if matches.get_flag("html") {
+        Form::Html
+    } else if matches.get_flag("json") && !matches.get_flag("dump") {
         Form::Json
     } else {
         Form::Text
-    };
+    }
+}
+
+/// The options of these words, the first of which is the program's name. A page comes before JSON, and JSON before lines for people; a page
+/// has the elements.
+pub fn parse_options<'a>(alloc: Global, words: &'a [String]) -> Result<Options<'a>, Error> {
+    let matches = command(alloc)?.try_get_matches_from(words)?;
+    let files = files_of(alloc, &matches)?;
+    let form = form_of(&matches);
     Ok(Options {
         form,
         asked: Asked {
             wishes: wishes_of(&matches),
             entries: matches.get_flag("entries"),
-            dump,
+            dump: matches.get_flag("dump") || form == Form::Html,
         },
         files,
     })

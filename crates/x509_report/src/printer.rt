@@ -1,10 +1,11 @@
 //! Where lines are written, and in what form.
 
-ghost use Rattle.std.specs.Prelude.{◌≡◌, ◌∷◌, [], IfOk, string_bytes};
+ghost use Rattle.std.specs.Prelude.{◌≡◌, ◌∷◌, [], IfOk, OnOk, string_bytes};
 ghost use Rattle.std.specs.Str.{IsUtf8};
 ghost use Rattle.json.specs.Lex.{tokens};
 ghost use Rattle.x509_report_lines.specs.Lines.{text_of};
-ghost use Rattle.x509_report.specs.Texts.{line_text};
+ghost use Rattle.x509_report_pages.specs.Reports.{report_page};
+ghost use Rattle.x509_report.specs.Texts.{article_page, begun, line_text, object_lines};
 ghost use Rattle.x509_report.specs.Told.{Tells};
 
 use crate::options::Form;
@@ -13,6 +14,7 @@ use std::alloc::{AllocError, Global};
 use std::io::Write;
 use std::{io, mem, str};
 use x509_report_lines::{Line, lines_of_json};
+use x509_report_pages::report_of_json;
 
 /// Where lines are written, and in what form. The memory of a line that was written is that of the next.
 #[derive(Drop)]
@@ -22,8 +24,23 @@ pub struct Printer<W> {
     memory: Vec<u8>,
 }
 
+/// The part of a page that a JSON text is.
+fn article_of(alloc: Global, json: &[u8]) -> Result<String, AllocError>
+    requires { IsUtf8 json.now }
+    ensures { IfOk result (λ s. string_bytes s ≡ article_page (tokens json.now)) }
+{
+    let Ok(json) = str::from_utf8(json) else {
+        return Err(AllocError);
+    };
+    let mut page = String::new(alloc);
+    page.push_str("<article>")?;
+    page.push_str(report_of_json(alloc, json)?.as_str())?;
+    page.push_str("</article>\n")?;
+    Ok(page)
+}
+
 /// The lines for people of a JSON text.
-fn page_of(alloc: Global, json: &[u8]) -> Result<String, AllocError>
+fn lines_of(alloc: Global, json: &[u8]) -> Result<String, AllocError>
     requires { IsUtf8 json.now }
     ensures { IfOk result (λ s. string_bytes s ≡ text_of (tokens json.now)) }
 {
@@ -68,12 +85,36 @@ impl<W: Write> Printer<W> {
                 self.out.write_all(&text)?;
             }
             Form::Text => {
-                let page = page_of(alloc, &text)?;
-                self.out.write_all(page.as_bytes())?;
+                let lines = lines_of(alloc, &text)?;
+                self.out.write_all(lines.as_bytes())?;
+            }
+            Form::Html => {
+                let article = article_of(alloc, &text)?;
+                self.out.write_all(article.as_bytes())?;
             }
         }
         self.memory = text;
         Ok(())
+    }
+
+    /// Begins an object.
+    fn begin(&mut self) -> Result<(), Stop>
+        ensures lines { Tells result (W.contents self.old.out) (W.contents self.new.out) (begun self.old.form) }
+        ensures form { self.new.form ≡ self.old.form }
+    {
+        match self.form {
+            Form::Html => self.put_text("<li>\n"),
+            Form::Json | Form::Text => Ok(()),
+        }
+    }
+
+    /// Writes the line of an object, with which its item of a page begins.
+    pub fn put_object(&mut self, alloc: Global, line: Line) -> Result<(), Stop>
+        ensures lines { Tells result (W.contents self.old.out) (W.contents self.new.out) (object_lines self.old.form line) }
+        ensures form { self.new.form ≡ self.old.form }
+    {
+        self.begin()?;
+        self.put(alloc, line)
     }
 
     /// Writes a text as it stands.
@@ -84,6 +125,25 @@ impl<W: Write> Printer<W> {
     {
         self.out.write_all(text.as_bytes())?;
         Ok(())
+    }
+
+    /// Writes pieces that stand around the objects of a page, where a page is written.
+    pub fn put_around(&mut self, pieces: &[&str]) -> io::Result<()>
+        ensures form { self.new.form ≡ self.old.form }
+    {
+        if self.form == Form::Html {
+            for piece in pieces {
+                self.out.write_all(piece.as_bytes())?;
+            }
+        }
+        Ok(())
+    }
+
+    /// In what form lines are written.
+    pub fn form(&self) -> Form
+        ensures { result ≡ self.now.form }
+    {
+        self.form
     }
 
     /// Writes what is held back.

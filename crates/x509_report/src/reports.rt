@@ -6,12 +6,12 @@ ghost use Rattle.x509_report_objects.specs.Attempts.{found_of, wishes_of};
 ghost use Rattle.x509_report_objects.specs.Lists.{entry_report};
 ghost use Rattle.x509_report_objects.specs.Objects.{failed_report, object_told, skipped_report};
 ghost use Rattle.x509_report.specs.Objects.{asks_of, dump_behind, entry_lines, fingerprint_of, lines_behind, lines_of_object, list_lines, members_behind};
-ghost use Rattle.x509_report.specs.Texts.{said};
+ghost use Rattle.x509_report.specs.Texts.{object_said, said};
 ghost use Rattle.x509_report.specs.Told.{Tells, one};
 
-use crate::dumps::report_dump;
 use crate::options::Asked;
 use crate::printer::Printer;
+use crate::sections::report_dump;
 use crate::stop::Stop;
 use sha2::{Digest, Sha256};
 use std::alloc::Global;
@@ -124,7 +124,7 @@ fn report_elements_of<W: Write>(
     asked: &Asked,
     octets: &[u8],
 ) -> Result<(), Stop>
-    ensures lines { Tells result (W.contents printer.old.out) (W.contents printer.new.out) (dump_behind (asks_of asked.now) octets.now) }
+    ensures lines { Tells result (W.contents printer.old.out) (W.contents printer.new.out) (dump_behind (asks_of asked.now) printer.old.form octets.now) }
     ensures form { printer.new.form ≡ printer.old.form }
 {
     if asked.dump {
@@ -161,12 +161,12 @@ fn report_line<W: Write>(
 ) -> Result<Option<Kind>, Stop>
     ensures kind { IfOk result (λ kind. kind ≡ (object_told (wishes_of wishes.now) (found_of place.now) octets.now).0) }
     ensures lines { Tells result (W.contents printer.old.out) (W.contents printer.new.out)
-        ((said printer.old.form (object_told (wishes_of wishes.now) (found_of place.now) octets.now).1) ∷ []) }
+        (object_said printer.old.form (object_told (wishes_of wishes.now) (found_of place.now) octets.now).1) }
     ensures form { printer.new.form ≡ printer.old.form }
 {
     let mut line = printer.line(alloc);
     let kind = object_line(alloc, &mut line, wishes, place, octets)?;
-    printer.put(alloc, line)?;
+    printer.put_object(alloc, line)?;
     Ok(kind)
 }
 
@@ -206,7 +206,7 @@ pub fn report_failed<W: Write>(
 {
     let mut line = printer.line(alloc);
     failed_line(alloc, &mut line, &asked.wishes, place, octets, kind, word)?;
-    printer.put(alloc, line)?;
+    printer.put_object(alloc, line)?;
     Ok(false)
 }
 
@@ -226,6 +226,6 @@ pub fn report_skipped<W: Write>(
 {
     let mut line = printer.line(alloc);
     skipped_line(alloc, &mut line, &asked.wishes, place, octets)?;
-    printer.put(alloc, line)?;
+    printer.put_object(alloc, line)?;
     Ok(true)
 }

@@ -4,7 +4,8 @@ ghost use Rattle.std.specs.Prelude.{◌≡◌, ◌+◌, ◌-◌, ◌*◌, true, 
 ghost use Rattle.std.specs.List.{list_all};
 ghost use Rattle.json.specs.Lex.{tokens};
 ghost use Rattle.json.specs.Reads.{token_of};
-ghost use Rattle.x509_report_lines.specs.Lines.{Page, step, page_of, text_of, lead, opening, indent, is_long_hex, is_hex_digit, break_before, broken, with_hex, with_text, with_value, opened, closed, after_key, blank};
+ghost use Rattle.x509_report_lines.specs.Lines.{Page, step, page_of, text_of, lead, opening, indent, is_long_hex, is_hex_digit, break_before, broken, with_hex};
+ghost use Rattle.x509_report_lines.specs.Lines.{with_text, with_value, opened, closed, after_key, blank};
 ghost use Rattle.x509_report_lines.specs.Escape.{escaped};
 
 use crate::escape::push_escaped;
@@ -95,7 +96,8 @@ fn push_broken(text: &mut String, depth: u8, digits: &[u8]) -> Result<(), AllocE
 
 impl Lines {
     fn lead(&mut self) -> Result<(), AllocError>
-        ensures { OnOk result (self.new ≡ record { text = self.old.text ++ lead self.old.keyed self.old.depth; depth = self.old.depth; keyed = self.old.keyed }) }
+        ensures { OnOk result
+            (self.new ≡ record { text = self.old.text ++ lead self.old.keyed self.old.depth; depth = self.old.depth; keyed = self.old.keyed }) }
     {
         if self.keyed {
             self.text.push_str(" ")?;

@@ -1,0 +1,68 @@
+-- The elements of an object in a page: a line each, parts that fold, a mark where a reader refuses, and the octets.
+use Rattle.std.specs.Prelude.{ℕ, nat_le, List, [], ◌∷◌, ◌++◌, Result, Ok, Err, codes, length, if◌then◌else◌}
+use Rattle.x509_der.specs.Words.{refusal_word}
+use Rattle.x509_der.specs.declared.error.Located.{Located}
+use Rattle.x509_dump.specs.Elements.{Line, elements_of, line_of}
+use Rattle.x509_dump.specs.declared.line.DumpLine.{DumpLine as RustLine}
+use Rattle.x509_fields.specs.Errors.{x509_word}
+use Rattle.x509_fields.specs.declared.error.X509Error.{X509Error}
+use Rattle.x509_paths.specs.declared.part.Part.{Part}
+use Rattle.x509_report_pages.specs.Elements.{closings, element_page, mark_page, open_behind}
+use Rattle.x509_report_pages.specs.Octets.{octets_page}
+use Rattle.x509_report.specs.Dumps.{dump_lines, holds, part_of, part_word}
+use Rattle.x509_report.specs.declared.dumps.View.{View}
+use Rattle.x509_report.specs.declared.dumps.View.TheVariants as views
+use Rattle.x509_report.specs.declared.options.Form.{Form}
+use Rattle.x509_report.specs.declared.options.Form.TheVariants as forms
+
+abbrev pub mark_words : Part → Located X509Error → List ℕ
+mark_words part e = codes "no " ++ (part_word part ++ (codes ": " ++ refusal_word x509_word e.why))
+
+abbrev pub mark_at : Part → Located X509Error → List ℕ
+mark_at part e = mark_page e.at (mark_words part e)
+
+-- below the line that holds the octet
+abbrev pub mark_in : View → Line → List ℕ
+mark_in (views.Refused part e) l = if holds l e.at then mark_at part e else []
+mark_in views.Nothing l = []
+mark_in (views.Taken part) l = []
+
+-- behind all lines, where none holds it
+abbrev pub mark_behind : View → List ℕ → List ℕ
+mark_behind (views.Refused part e) octets = if nat_le (length octets) e.at then mark_at part e else []
+mark_behind views.Nothing octets = []
+mark_behind (views.Taken part) octets = []
+
+-- a line where so many parts are open
+abbrev pub section_line : View → ℕ → Line → List ℕ
+section_line view opened l = element_page opened l ++ mark_in view l
+
+-- behind the last line all parts end
+unfoldable pub section_end : View → List ℕ → ℕ → List ℕ
+section_end view octets opened = closings opened ++ (mark_behind view octets ++ (octets_page octets ++ codes "</section>\n"))
+
+-- lines where so many parts are open, and what stands behind the last
+unfoldable pub section_lines : View → List ℕ → ℕ → List Line → List (List ℕ)
+section_lines view octets opened [] = section_end view octets opened ∷ []
+section_lines view octets opened (l ∷ ls) = section_line view opened l ∷ section_lines view octets (open_behind l) ls
+
+-- what is told of a line that was found; nothing where memory was refused
+abbrev pub found_section : {E : Type 0} → View → ℕ → Result RustLine E → List (List ℕ)
+found_section view opened (Ok line) = section_line view opened (line_of line) ∷ []
+found_section view opened (Err e) = []
+
+abbrev pub opened_by : {E : Type 0} → Result RustLine E → ℕ
+opened_by (Ok line) = open_behind (line_of line)
+opened_by (Err e) = 0
+
+abbrev pub section_all : View → List ℕ → List (List ℕ)
+section_all view octets = section_lines view octets 0 (elements_of (part_of view) octets)
+
+unfoldable pub section_page : View → List ℕ → List (List ℕ)
+section_page view octets = codes "<section>\n" ∷ section_all view octets
+
+-- the elements, in this form
+abbrev pub dump_told : Form → View → List ℕ → List (List ℕ)
+dump_told forms.Html view octets = section_page view octets
+dump_told forms.Json view octets = dump_lines view octets
+dump_told forms.Text view octets = dump_lines view octets
