@@ -2,8 +2,11 @@
    bench FILE..                          a row for each reader, over the files that it reads
    bench --look-ups LIST ASKED EXPECTED  the serials of the list ASKED on LIST; EXPECTED has a line for each, its position or -1
    bench --validate N FILE..             the validator of extensions over certificates with N identifiers each, a row for each
+   RUSHTRIVET_LIBRARY names the C library, which has a row of its own then.
    A row is the least of ROUNDS rounds, all in one process. */
 #define _GNU_SOURCE
+#include "rushtrivet.h"
+#include <dlfcn.h>
 #include <malloc.h>
 #include <stdbool.h>
 #include <stdint.h>
@@ -149,6 +152,46 @@ static void reader_row(const char *name, reader read, file *files, size_t count)
     free(taken);
 }
 
+/* ---- the C library, loaded beside: its own requests for memory aren't led here */
+
+enum { ROWS = 64 };
+static rtv_status (*c_call)(const uint8_t *, size_t, bool, bool, rtv_certificate *, rtv_extension *, size_t, size_t *);
+static bool c_certificate(const uint8_t *bytes, size_t size) {
+    static rtv_certificate found = RTV_CERTIFICATE_INIT;
+    static rtv_extension rows[ROWS];
+    static bool begun;
+    size_t at;
+    if (!begun) rtv_init_extensions(rows, ROWS), begun = true;
+    return c_call(bytes, size, false, false, &found, rows, ROWS, &at) == RTV_OK;
+}
+/* The C call and the call that it stands on, in turns. */
+static void c_row(file *files, size_t count) {
+    const char *name = getenv("RUSHTRIVET_LIBRARY");
+    void *library = name && *name ? dlopen(name, RTLD_NOW | RTLD_LOCAL) : NULL;
+    if (!library) { printf("%-34s %s\n", "certificate, by the C library", "RUSHTRIVET_LIBRARY names none"); return; }
+    *(void **)&c_call = dlsym(library, "rtv_read_certificate");
+    if (!c_call) stop("has no rtv_read_certificate", name);
+    file **taken = room(count * sizeof *taken);
+    size_t items = 0, bytes = 0;
+    for (size_t k = 0; k < count; k++) if (c_certificate(files[k].bytes, files[k].size)) {
+        taken[items++] = &files[k];
+        bytes += files[k].size;
+        if (!x509_bench_shallow(files[k].bytes, files[k].size)) stop("is taken by the C library alone", files[k].name);
+    }
+    double own = 1e300, time = 1e300;
+    for (int k = 0; items && k < ROUNDS; k++) {
+        double one = round_of(x509_bench_shallow, taken, items);
+        if (one < own) own = one;
+        one = round_of(c_certificate, taken, items);
+        if (one < time) time = one;
+    }
+    if (items) {
+        row("certificate, by the C library", items, time, (double)bytes / (double)items, -1, 0);
+        printf("  of the shallow reading of the same, in turns: %.2f\n", time / own);
+    }
+    free(taken);
+}
+
 /* ---- rows between marks: for each file the least of the rounds */
 
 static void text_row(file *files, size_t count) {
@@ -277,6 +320,7 @@ int main(int argc, char **argv) {
     printf("%zu files, %zu bytes; each row over the files that its reader takes, the least of %d rounds\n", count, bytes, ROUNDS);
     heading();
     reader_row("certificate, shallow", x509_bench_shallow, files, count);
+    c_row(files, count);
     reader_row("certificate, deep", x509_bench_deep, files, count);
     reader_row("certificate, strict", x509_bench_strict, files, count);
     reader_row("list", x509_bench_list, files, count);
