@@ -2,3 +2,5 @@ pub mod Elements
 pub mod Fronts
 pub mod Shown
 pub mod Walking
+pub mod Plain
+pub mod Markup

@@ -3,3 +3,8 @@ pub mod Elements
 pub mod Nested
 pub mod Walks
 pub mod Texts
+pub mod PageEscape
+pub mod PageReports
+pub mod PageElements
+pub mod PageOctets
+pub mod PageMarkup

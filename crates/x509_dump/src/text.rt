@@ -310,7 +310,7 @@ fn form_word(header: &Header) -> &'static str
 }
 
 /// The octets behind the first ones.
-fn behind(octets: &[u8], count: usize) -> &[u8]
+pub(crate) fn behind(octets: &[u8], count: usize) -> &[u8]
     ensures { result.now ≡ drop count octets.now }
 {
     if count <= octets.len() {

@@ -1,6 +1,6 @@
 //! Visitors, which are led over the parts of a certificate or a list of revoked certificates.
 
 pub use x509_visitors::{
-    CertificateRevocationListVisitor, CertificateVisit, CertificateVisits, ListVisit, ListVisits,
-    WalkCertificate, WalkRevocationList, X509CertificateVisitor,
+    CertificateRevocationListVisitor, CertificateVisit, CertificateVisits, ExtensionVisit,
+    ListVisit, ListVisits, WalkCertificate, WalkRevocationList, X509CertificateVisitor,
 };

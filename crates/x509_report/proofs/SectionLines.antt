@@ -1,11 +1,11 @@
 -- Lines of a page, one after another.
-use Rattle.std.proofs.Common.{◌≡◌, ℕ, List, [], ◌∷◌, ◌++◌, Option, Result, Ok, Err, IsOk, refl, subst, sym, ap, ◌∙◌, append-nil}
+use Rattle.std.proofs.Common.{◌≡◌, ℕ, List, [], ◌++◌, Option, Result, Ok, Err, IsOk, refl, subst, sym, ap, ◌∙◌, append-nil}
 use Rattle.std.specs.Io.KnownBytes.{Appends}
-use Rattle.x509_dump.specs.Elements.{Line, line_of}
+use Rattle.x509_dump.specs.Elements.{line_of}
 use Rattle.x509_dump.specs.Walks.{IsNext, left}
 use Rattle.x509_dump.specs.declared.line.DumpLine.{DumpLine as RustLine}
 use Rattle.x509_dump.specs.declared.lines.DumpLines.{DumpLines}
-use Rattle.x509_report_pages.specs.Elements.{open_behind}
+use Rattle.x509_dump.specs.PageElements.{open_behind}
 use Rattle.x509_report.specs.Sections.{found_section, opened_by, section_lines}
 use Rattle.x509_report.specs.Told.{Tells, WritesFront, text}
 use Rattle.x509_report.specs.declared.dumps.View.{View}

@@ -7,8 +7,8 @@ use Rattle.x509_dump.specs.declared.line.DumpLine.{DumpLine as RustLine}
 use Rattle.x509_fields.specs.Errors.{x509_word}
 use Rattle.x509_fields.specs.declared.error.X509Error.{X509Error}
 use Rattle.x509_paths.specs.declared.part.Part.{Part}
-use Rattle.x509_report_pages.specs.Elements.{closings, element_page, mark_page, open_behind}
-use Rattle.x509_report_pages.specs.Octets.{octets_page}
+use Rattle.x509_dump.specs.PageElements.{closings, element_page, mark_page, open_behind}
+use Rattle.x509_dump.specs.PageOctets.{octets_page}
 use Rattle.x509_report.specs.Dumps.{dump_lines, holds, part_of, part_word}
 use Rattle.x509_report.specs.declared.dumps.View.{View}
 use Rattle.x509_report.specs.declared.dumps.View.TheVariants as views

@@ -1,5 +1,5 @@
 -- What is told of the objects of a file: lines, one behind another, and whether every object was taken.
-use Rattle.std.specs.Prelude.{◌≡◌, ℕ, ◌≤◌, List, [], ◌∷◌, ◌++◌, Bool, true, ◌&&◌, Option, Result, MatchResult, flat_map, length, take}
+use Rattle.std.specs.Prelude.{◌≡◌, ℕ, ◌≤◌, List, [], ◌++◌, Bool, true, ◌&&◌, Option, Result, MatchResult, flat_map, length, take}
 use Rattle.std.specs.Io.KnownBytes.{Appends}
 use Rattle.json.specs.Json.{Json}
 use Rattle.x509_report.specs.Texts.{object_said}

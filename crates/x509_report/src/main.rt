@@ -22,7 +22,7 @@ use std::fs::File;
 use std::io::BufWriter;
 use std::process::ExitCode;
 use std::{env, io};
-use x509_report_pages::{FOOT, HEAD};
+use x509_dump::page::{FOOT, HEAD};
 
 /// Every object was taken.
 const TAKEN: u8 = 0;

@@ -1,10 +1,9 @@
 //! Where lines are written, and in what form.
 
-ghost use Rattle.std.specs.Prelude.{◌≡◌, ◌∷◌, [], IfOk, OnOk, string_bytes};
+ghost use Rattle.std.specs.Prelude.{◌≡◌, ◌∷◌, [], IfOk, string_bytes};
 ghost use Rattle.std.specs.Str.{IsUtf8};
 ghost use Rattle.json.specs.Lex.{tokens};
 ghost use Rattle.x509_report_lines.specs.Lines.{text_of};
-ghost use Rattle.x509_report_pages.specs.Reports.{report_page};
 ghost use Rattle.x509_report.specs.Texts.{article_page, begun, line_text, object_lines};
 ghost use Rattle.x509_report.specs.Told.{Tells};
 
@@ -13,8 +12,8 @@ use crate::stop::Stop;
 use std::alloc::{AllocError, Global};
 use std::io::Write;
 use std::{io, mem, str};
+use x509_dump::page::report_of_json;
 use x509_report_lines::{Line, lines_of_json};
-use x509_report_pages::report_of_json;
 
 /// Where lines are written, and in what form. The memory of a line that was written is that of the next.
 #[derive(Drop)]

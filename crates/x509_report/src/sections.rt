@@ -1,9 +1,9 @@
 //! The elements of an object in a page, or as lines.
 
-ghost use Rattle.std.specs.Prelude.{◌≡◌, ◌∷◌, [], ◌++◌, IfOk, IsOk, OnOk, string_bytes};
+ghost use Rattle.std.specs.Prelude.{◌≡◌, ◌++◌, IfOk, IsOk, OnOk, string_bytes};
 ghost use Rattle.x509_dump.specs.Elements.{line_of};
 ghost use Rattle.x509_report_objects.specs.Attempts.{wishes_of};
-ghost use Rattle.x509_report_pages.specs.Elements.{open_behind};
+ghost use Rattle.x509_dump.specs.PageElements.{open_behind};
 ghost use Rattle.x509_report.specs.Dumps.{view_of};
 ghost use Rattle.x509_report.specs.Sections.{dump_told, found_section, mark_at, mark_behind, mark_in, mark_words, opened_by, section_end, section_line};
 ghost use Rattle.x509_report.specs.Sections.{section_all, section_page};
@@ -16,11 +16,11 @@ use crate::stop::Stop;
 use std::alloc::{AllocError, Global};
 use std::io::Write;
 use x509_der::Located;
+use x509_dump::page::{push_closings, push_element, push_mark, push_octets};
 use x509_dump::{DumpLine, dump};
 use x509_fields::X509Error;
 use x509_paths::Part;
 use x509_report_objects::Wishes;
-use x509_report_pages::{push_closings, push_element, push_mark, push_octets};
 
 /// Why a reader refuses, in words.
 fn mark_words(alloc: Global, part: Part, refusal: &Located<X509Error>) -> Result<String, AllocError>

@@ -13,12 +13,12 @@ use Rattle.x509_validators.specs.Message.{Message, warnings_of, errors_of}
 use Rattle.x509_validators.specs.SignedPart.{signed_part_messages, is_signed_part_sound}
 use Rattle.x509_report_lines.specs.Says.{count, optional, list_of, record_of}
 use Rattle.x509_report_objects.specs.Extensions.{extension_report}
-use Rattle.x509_report_values.specs.Addresses.{address_text}
-use Rattle.x509_report_values.specs.Algorithms.{algorithm_report, bits_report}
-use Rattle.x509_report_values.specs.Keys.{key_report}
-use Rattle.x509_report_values.specs.Names.{name_report}
-use Rattle.x509_report_values.specs.Octets.{hex}
-use Rattle.x509_report_values.specs.Times.{time_report}
+use Rattle.x509_report_objects.specs.Addresses.{address_text}
+use Rattle.x509_report_objects.specs.Algorithms.{algorithm_report, bits_report}
+use Rattle.x509_report_objects.specs.Keys.{key_report}
+use Rattle.x509_report_objects.specs.Names.{name_report}
+use Rattle.x509_report_objects.specs.Octets.{hex}
+use Rattle.x509_report_objects.specs.Times.{time_report}
 
 -- as the standard counts: the first is written 0 (RFC 5280, 4.1.2.1)
 abbrev pub version_report : ℕ → Json

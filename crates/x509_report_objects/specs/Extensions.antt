@@ -7,13 +7,13 @@ use Rattle.x509_extensions.specs.KindWords.{kind_word}
 use Rattle.x509_extensions.specs.Parsed.{Parsed}
 use Rattle.x509_extensions.specs.Parsed as parsed
 use Rattle.x509_report_lines.specs.Says.{list_of, record_of}
-use Rattle.x509_report_values.specs.Authorities.{access_report, authority_key_identifier_report, issuing_point_report, point_report}
-use Rattle.x509_report_values.specs.GeneralNames.{general_name_report, name_constraints_report}
-use Rattle.x509_report_values.specs.Identifiers.{oid_members}
-use Rattle.x509_report_values.specs.Octets.{hex}
-use Rattle.x509_report_values.specs.Times.{time_report}
-use Rattle.x509_report_values.specs.Timestamps.{timestamp_report}
-use Rattle.x509_report_values.specs.Usages.{basic_constraints_report, extended_key_usage_report, inhibit_any_policy_report, key_usage_report, ns_cert_type_report, policy_constraints_report, policy_mapping_report, policy_report, reason_report}
+use Rattle.x509_report_objects.specs.Authorities.{access_report, authority_key_identifier_report, issuing_point_report, point_report}
+use Rattle.x509_report_objects.specs.GeneralNames.{general_name_report, name_constraints_report}
+use Rattle.x509_report_objects.specs.Identifiers.{oid_members}
+use Rattle.x509_report_objects.specs.Octets.{hex}
+use Rattle.x509_report_objects.specs.Times.{time_report}
+use Rattle.x509_report_objects.specs.Timestamps.{timestamp_report}
+use Rattle.x509_report_objects.specs.Usages.{basic_constraints_report, extended_key_usage_report, inhibit_any_policy_report, key_usage_report, ns_cert_type_report, policy_constraints_report, policy_mapping_report, policy_report, reason_report}
 
 -- what the value says; of one that can't be read, why
 abbrev pub value_report : Parsed → Json

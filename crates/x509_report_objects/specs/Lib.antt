@@ -6,3 +6,14 @@ pub mod Lists
 pub mod Requests
 pub mod Objects
 pub mod Attempts
+pub mod Algorithms
+pub mod Authorities
+pub mod Addresses
+pub mod GeneralNames
+pub mod Identifiers
+pub mod Keys
+pub mod Names
+pub mod Octets
+pub mod Times
+pub mod Timestamps
+pub mod Usages

@@ -14,11 +14,11 @@ use Rattle.x509_report_lines.specs.Says.{count, optional, list_of, record_of}
 use Rattle.x509_report_objects.specs.Certificates.{serial_report, version_report}
 use Rattle.x509_report_objects.specs.Extensions.{extension_report}
 use Rattle.x509_report_objects.specs.Places.{Found, place_members}
-use Rattle.x509_report_values.specs.Algorithms.{algorithm_report, bits_report}
-use Rattle.x509_report_values.specs.Names.{name_report}
-use Rattle.x509_report_values.specs.Octets.{hex}
-use Rattle.x509_report_values.specs.Times.{time_report}
-use Rattle.x509_report_values.specs.Usages.{reason_report}
+use Rattle.x509_report_objects.specs.Algorithms.{algorithm_report, bits_report}
+use Rattle.x509_report_objects.specs.Names.{name_report}
+use Rattle.x509_report_objects.specs.Octets.{hex}
+use Rattle.x509_report_objects.specs.Times.{time_report}
+use Rattle.x509_report_objects.specs.Usages.{reason_report}
 
 -- what the first extension with an identifier says
 abbrev pub first_parsed : List ℕ → List Extension → Option Parsed

@@ -2,7 +2,7 @@
 use Rattle.std.specs.Prelude.{ℕ, List, [], ◌∷◌, codes, Bool, Option, length}
 use Rattle.json.specs.Json.{Json, string}
 use Rattle.x509_report_lines.specs.Says.{count, optional}
-use Rattle.x509_report_values.specs.Octets.{fingerprint}
+use Rattle.x509_report_objects.specs.Octets.{fingerprint}
 
 -- where an object was found: in which file, the how manyth in it, at which octet, under which label
 pub record Found : Type 0 where

@@ -7,11 +7,11 @@ use Rattle.x509_fields.specs.Signed.{Signed}
 use Rattle.x509_report_lines.specs.Says.{count, list_of, record_of}
 use Rattle.x509_report_objects.specs.Certificates.{version_report}
 use Rattle.x509_report_objects.specs.Extensions.{extension_report}
-use Rattle.x509_report_values.specs.Algorithms.{algorithm_report, bits_report}
-use Rattle.x509_report_values.specs.Identifiers.{oid_members}
-use Rattle.x509_report_values.specs.Keys.{key_report}
-use Rattle.x509_report_values.specs.Names.{name_report}
-use Rattle.x509_report_values.specs.Octets.{hex}
+use Rattle.x509_report_objects.specs.Algorithms.{algorithm_report, bits_report}
+use Rattle.x509_report_objects.specs.Identifiers.{oid_members}
+use Rattle.x509_report_objects.specs.Keys.{key_report}
+use Rattle.x509_report_objects.specs.Names.{name_report}
+use Rattle.x509_report_objects.specs.Octets.{hex}
 
 -- what it is, and what it says
 abbrev pub attribute_members : ParsedAttribute → List (List ℕ × Json)

@@ -7,7 +7,7 @@ ghost use Rattle.x509_certs.specs.Certificate.{certificate_of};
 ghost use Rattle.x509_certs.specs.TbsCertificate.{tbs_of};
 ghost use Rattle.x509_certs.specs.UniqueIdentifier.{bits_of_uid};
 ghost use Rattle.x509_report_lines.specs.Says.{Says, SaysEach, SaysMembers, SaysUnder, count, optional};
-ghost use Rattle.x509_report_values.specs.Algorithms.{bits_report};
+ghost use Rattle.x509_report_objects.specs.Algorithms.{bits_report};
 ghost use Rattle.x509_der.specs.Promises.{option_view};
 ghost use Rattle.x509_der.specs.Unsigned.{unsigned_bytes};
 ghost use Rattle.x509_report_objects.specs.Certificates.{certificate_members, head_members, key_members, name_members, serial_report, tail_members};
@@ -17,14 +17,14 @@ ghost use Rattle.x509_validators.specs.SignedPart.{signed_part_messages, is_sign
 use crate::extensions::extensions_under;
 use crate::objects::size_under;
 use crate::summary::say_summary;
+use crate::values::{
+    count_under, hex_under, null_under, say_key, shown_under, truth_under, value_under,
+};
 use std::alloc::{AllocError, Global};
 use x509_certs::{TbsCertificate, UniqueIdentifier, X509Certificate};
 use x509_der::UnsignedBytes;
 use x509_fields::X509Version;
 use x509_report_lines::Line;
-use x509_report_values::{
-    count_under, hex_under, null_under, say_key, shown_under, truth_under, value_under,
-};
 use x509_validators::Validate;
 
 /// A version under a key, as the standard counts.

@@ -6,12 +6,10 @@ ghost use Rattle.x509_extensions.specs.Parsed.{parsed_of};
 ghost use Rattle.x509_report_lines.specs.Says.{Says, SaysEach, SaysUnder, list_of};
 ghost use Rattle.x509_report_objects.specs.Extensions.{extension_report, value_report};
 
+use crate::values::{Said, hex_under, oid_members, say_hex, say_list, text_under, truth_under};
 use std::alloc::{AllocError, Global};
 use x509_extensions::{ParsedExtension, X509Extension};
 use x509_report_lines::Line;
-use x509_report_values::{
-    Said, hex_under, oid_members, say_hex, say_list, text_under, truth_under,
-};
 
 /// What the value of an extension says.
 fn say_value(alloc: Global, out: &mut Line, value: &ParsedExtension<'_>) -> Result<(), AllocError>

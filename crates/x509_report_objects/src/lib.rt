@@ -1,4 +1,4 @@
-//! What reports say of certificates, of lists of revoked certificates and their entries, and of requests.
+//! What reports say of certificates, of lists of revoked certificates and their entries, of requests, and of the values in them.
 #![tactic(auto)]
 
 mod certificates;
@@ -8,6 +8,7 @@ mod lists;
 mod objects;
 mod requests;
 mod summary;
+mod values;
 
 pub use certificates::certificate_members;
 pub use lists::{entry_line, first_parsed, list_members};

@@ -16,12 +16,12 @@ ghost use Rattle.x509_report_objects.specs.Lists.{list_members, list_tail_member
 use crate::certificates::{say_serial, version_under};
 use crate::extensions::extensions_under;
 use crate::objects::{Found, say_place, size_under};
+use crate::values::{count_under, hex_under, null_under, optional_under, value_under};
 use std::alloc::{AllocError, Global};
 use x509_extensions::{ParsedExtension, X509Extension};
 use x509_lists::{CertificateRevocationList, RevokedCertificate, TbsCertList};
 use x509_names::{OID_X509_EXT_CRL_NUMBER, OID_X509_EXT_INVALIDITY_DATE, OID_X509_EXT_REASON_CODE};
 use x509_report_lines::Line;
-use x509_report_values::{count_under, hex_under, null_under, optional_under, value_under};
 
 /// What the first extension with this identifier says, whose contents octets these are; none where no extension has it.
 pub fn first_parsed<'v, 'a>(

@@ -19,6 +19,9 @@ use crate::certificates::certificate_members;
 use crate::errors::refusal_name;
 use crate::lists::list_members;
 use crate::requests::request_members;
+use crate::values::{
+    count_under, fingerprint_under, null_under, optional_text_under, text_under, truth_under,
+};
 use std::alloc::{AllocError, Global};
 use x509_certs::{X509Certificate, parse_x509_certificate_located, parse_x509_certificate_marked};
 use x509_der::{Err, Located};
@@ -26,9 +29,6 @@ use x509_fields::X509Error;
 use x509_lists::{CertificateRevocationList, parse_x509_crl_located, parse_x509_crl_marked};
 use x509_paths::{Part, path_to};
 use x509_report_lines::Line;
-use x509_report_values::{
-    count_under, fingerprint_under, null_under, optional_text_under, text_under, truth_under,
-};
 use x509_requests::{X509CertificationRequest, parse_x509_csr_located, parse_x509_csr_marked};
 
 /// Where an object was found.

@@ -9,11 +9,11 @@ ghost use Rattle.x509_report_objects.specs.Requests.{attribute_members, attribut
 
 use crate::certificates::version_under;
 use crate::extensions::extensions_under;
-use std::alloc::{AllocError, Global};
-use x509_report_lines::Line;
-use x509_report_values::{
+use crate::values::{
     count_under, hex_under, null_under, oid_members, say_key, text_under, value_under,
 };
+use std::alloc::{AllocError, Global};
+use x509_report_lines::Line;
 use x509_requests::{
     ParsedCriAttribute, X509CertificationRequest, X509CertificationRequestInfo, X509CriAttribute,
 };

@@ -9,15 +9,15 @@ ghost use Rattle.x509_extensions.specs.Parsed.{parsed_of};
 ghost use Rattle.x509_general_names.specs.GeneralName.{general_name_of};
 ghost use Rattle.x509_report_lines.specs.Says.{SaysEach, SaysMembers, SaysUnder, each_in_written};
 ghost use Rattle.x509_report_objects.specs.Certificates.{host_in, hosts_in, hosts_of, is_authority, only_parsed, summary_members, texts_report};
-ghost use Rattle.x509_report_values.specs.Addresses.{address_text};
+ghost use Rattle.x509_report_objects.specs.Addresses.{address_text};
 
+use crate::values::{address_text, truth_under};
 use std::alloc::{AllocError, Global};
 use x509_der::Oid;
 use x509_extensions::{ParsedExtension, X509Extension, get_extension_unique};
 use x509_general_names::GeneralName;
 use x509_names::OID_X509_EXT_BASIC_CONSTRAINTS;
 use x509_report_lines::Line;
-use x509_report_values::{address_text, truth_under};
 
 /// The text of an address, where its octets have one.
 fn say_address(alloc: Global, out: &mut Line, octets: &[u8]) -> Result<(), AllocError>

@@ -16,9 +16,6 @@ use x509_der::UnsignedBytes;
 use x509_fields::X509Error;
 use x509_lists::TbsCertList;
 
-#[cfg(test)]
-mod tests;
-
 /// The serials of a list of revoked certificates, in order, each with the position of its entry on the list.
 ///
 /// It holds 32 octets for each entry, and borrows the bytes that the list was read from, not the list.

@@ -1,6 +1,6 @@
 //! The report of a certificate.
 
-ghost use Rattle.std.specs.Prelude.{◌≡◌, MatchResult, string_bytes};
+ghost use Rattle.std.specs.Prelude.{◌≡◌, MatchResult};
 ghost use Rattle.x509_certs.specs.Certificate.{Certificate, certificate_of};
 ghost use Rattle.x509_show.specs.declared.stop.Stop.TheVariants.{Memory};
 ghost use Rattle.x509_show.specs.Report.{IsOnly};

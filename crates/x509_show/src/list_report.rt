@@ -1,14 +1,13 @@
 //! The report of a list of revoked certificates.
 
 ghost use Rattle.std.specs.Prelude.{◌≡◌, ◌++◌, IfSome, OnOk, MatchOption, MatchResult, codes, flat_map, map, string_bytes};
-ghost use Rattle.x509_der.specs.Promises.{option_view};
 ghost use Rattle.x509_lists.specs.CertificateList.{list_of};
 ghost use Rattle.x509_lists.specs.RevokedCertificate.{revoked_of};
 ghost use Rattle.x509_lists.specs.TbsCertList.{TbsList};
 ghost use Rattle.x509_fields.specs.Signed.{Signed};
 ghost use Rattle.x509_show.specs.declared.stop.Stop.TheVariants.{Memory};
 ghost use Rattle.x509_show.specs.Lines.{line};
-ghost use Rattle.x509_show.specs.ListReport.{IsListReport, IsStrictListReport, or_none, revoked_line, list_text};
+ghost use Rattle.x509_show.specs.ListReport.{IsListReport, IsStrictListReport, revoked_line, list_text};
 ghost use Rattle.x509_show.specs.Report.{IsOnly};
 
 use crate::front_report::{Shown, front_report};

@@ -13,6 +13,8 @@ use crate::parts::{Sink, Source};
 use crate::runs::{cause, run};
 use crate::stop::Stop;
 use crate::streams::{ReaderSource, WriterSink};
+use std::alloc::Global;
+use std::process::Abort;
 use std::test::Fail;
 
 /// An X.509 certificate that is empty wherever it may be: 66 bytes.
@@ -23,6 +25,27 @@ const CERTIFICATE: &[u8] = b"\x30\x40\x30\x36\x02\x01\x01\x30\x03\x06\x01\x2A\x3
 const CERTIFICATE_LINE: &str = "universal constructed tag=16 length=64 rest=0\n";
 
 const USAGE: &str = "usage: x509_show der|cert|crl|csr|cert-strict|crl-strict|csr-strict\n";
+
+/// Runs a command over an input, of which a read gives so many octets at most and a write takes so many, and compares what is written and
+/// the exit status; all of the input is read, and nothing fails.
+fn expect_report(
+    rt: &impl Abort,
+    alloc: Global,
+    command: &str,
+    input: &[u8],
+    steps: (usize, usize),
+    status: u8,
+    text: &str,
+) {
+    let (read, written) = steps;
+    let mut from = MemorySource::new(input, 1000, read);
+    let mut to = MemorySink::new(Vec::new(alloc), 1000, 1000, written);
+    let answered = run(alloc, command, &mut from, &mut to);
+    assert_eq!(rt; to.bytes(), text.as_bytes());
+    assert_eq!(rt; answered, status);
+    assert!(rt; from.rest().is_empty());
+    assert!(rt; !from.failed() && !to.failed());
+}
 
 #[test]
 fn inputs(rt: HostRuntime) -> Result<(), Fail> {
@@ -60,13 +83,7 @@ fn inputs(rt: HostRuntime) -> Result<(), Fail> {
     ];
     for step in [1, 7, 4096] {
         for (input, status, text) in rows {
-            let mut from = MemorySource::new(input, 1000, step);
-            let mut to = MemorySink::new(Vec::new(rt.alloc()), 1000, 1000, step);
-            let answered = run(rt.alloc(), "der", &mut from, &mut to);
-            assert_eq!(rt; to.bytes(), text.as_bytes());
-            assert_eq!(rt; answered, status);
-            assert!(rt; from.rest().is_empty());
-            assert!(rt; !from.failed() && !to.failed());
+            expect_report(&rt, rt.alloc(), "der", input, (step, step), status, text);
         }
     }
     Ok(())

@@ -7,6 +7,9 @@ use x509_parser::parse_x509_crl_entries;
 use x509_parser::revocation_list::{CertificateRevocationList, RevokedCertificate};
 use x509_revoked::RevocationIndex;
 
+#[cfg(test)]
+mod tests;
+
 /// The first entry of a serial, by looking at each.
 pub fn entry_of<'l, 'a>(
     list: &'l CertificateRevocationList<'a>,

@@ -1,9 +1,6 @@
 //! Certificates, shown.
 
-use super::CERTIFICATE;
-use super::memory::{MemorySink, MemorySource};
-use crate::parts::{Sink, Source};
-use crate::runs::run;
+use super::{CERTIFICATE, expect_report};
 use std::test::Fail;
 
 pub const LINES: &str = "version: V1\nserial: 01\nsignature: 1.2\nissuer: \n\
@@ -83,13 +80,7 @@ fn certificates(rt: HostRuntime) -> Result<(), Fail> {
         ),
     ];
     for (input, status, text) in rows {
-        let mut from = MemorySource::new(input, 1000, 50);
-        let mut to = MemorySink::new(Vec::new(rt.alloc()), 1000, 1000, 100);
-        let answered = run(rt.alloc(), "cert", &mut from, &mut to);
-        assert_eq!(rt; to.bytes(), text.as_bytes());
-        assert_eq!(rt; answered, status);
-        assert!(rt; from.rest().is_empty());
-        assert!(rt; !from.failed() && !to.failed());
+        expect_report(&rt, rt.alloc(), "cert", input, (50, 100), status, text);
     }
     Ok(())
 }
@@ -97,11 +88,16 @@ fn certificates(rt: HostRuntime) -> Result<(), Fail> {
 #[test]
 fn every_cut(rt: HostRuntime) -> Result<(), Fail> {
     for n in 0..CERTIFICATE.len() {
-        let mut from = MemorySource::new(&CERTIFICATE[..n], 1000, 1000);
-        let mut to = MemorySink::new(Vec::new(rt.alloc()), 1000, 1000, 1000);
-        assert_eq!(rt; run(rt.alloc(), "cert", &mut from, &mut to), 1);
-        assert_eq!(rt; to.bytes(), b"refused: incomplete\n".as_slice());
-        assert!(rt; from.rest().is_empty());
+        let steps = (1000, 1000);
+        expect_report(
+            &rt,
+            rt.alloc(),
+            "cert",
+            &CERTIFICATE[..n],
+            steps,
+            1,
+            "refused: incomplete\n",
+        );
     }
     Ok(())
 }

@@ -1,10 +1,7 @@
 //! Inputs of many reads.
 
-use super::CERTIFICATE;
 use super::certificates::LINES;
-use super::memory::{MemorySink, MemorySource};
-use crate::parts::{Sink, Source};
-use crate::runs::run;
+use super::{CERTIFICATE, expect_report};
 use std::alloc::Global;
 use std::test::Fail;
 
@@ -57,13 +54,16 @@ const LONG: [(&[u8], usize, u8, &str); 5] = [
 fn long_elements(rt: HostRuntime) -> Result<(), Fail> {
     for (front, length, status, text) in LONG {
         let input = filled(rt.alloc(), front, length)?;
-        let mut from = MemorySource::new(input.as_slice(), 1000, 4096);
-        let mut to = MemorySink::new(Vec::new(rt.alloc()), 1000, 1000, 1000);
-        let answered = run(rt.alloc(), "der", &mut from, &mut to);
-        assert_eq!(rt; to.bytes(), text.as_bytes());
-        assert_eq!(rt; answered, status);
-        assert!(rt; from.rest().is_empty());
-        assert!(rt; !from.failed() && !to.failed());
+        let steps = (4096, 1000);
+        expect_report(
+            &rt,
+            rt.alloc(),
+            "der",
+            input.as_slice(),
+            steps,
+            status,
+            text,
+        );
     }
     Ok(())
 }
@@ -76,9 +76,7 @@ fn long_signature(rt: HostRuntime) -> Result<(), Fail> {
     front.extend_from_slice(&CERTIFICATE[2..63])?;
     front.extend_from_slice(b"\x03\x83\x01\x11\x71\x00")?;
     let input = filled(rt.alloc(), front.as_slice(), 69_998)?;
-    let mut from = MemorySource::new(input.as_slice(), 1000, 4096);
-    let mut to = MemorySink::new(Vec::new(rt.alloc()), 1000, 1000, 1000);
-    assert_eq!(rt; run(rt.alloc(), "cert", &mut from, &mut to), 0);
-    assert_eq!(rt; to.bytes(), LINES.as_bytes());
+    let steps = (4096, 1000);
+    expect_report(&rt, rt.alloc(), "cert", input.as_slice(), steps, 0, LINES);
     Ok(())
 }

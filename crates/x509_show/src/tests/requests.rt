@@ -1,8 +1,6 @@
 //! Certification requests, shown.
 
-use super::memory::{MemorySink, MemorySource};
-use crate::parts::{Sink, Source};
-use crate::runs::run;
+use super::expect_report;
 use std::test::Fail;
 
 const NO_ATTRIBUTES: &str = "version: V1\nsubject: \nkey: 1.2\nsignature: 1.2\ntbs: 19\nrest: 0\n";
@@ -46,13 +44,7 @@ fn requests(rt: HostRuntime) -> Result<(), Fail> {
         (b"", 1, "refused: incomplete\n"),
     ];
     for (input, status, text) in rows {
-        let mut from = MemorySource::new(input, 1000, 50);
-        let mut to = MemorySink::new(Vec::new(rt.alloc()), 1000, 1000, 100);
-        let answered = run(rt.alloc(), "csr", &mut from, &mut to);
-        assert_eq!(rt; to.bytes(), text.as_bytes());
-        assert_eq!(rt; answered, status);
-        assert!(rt; from.rest().is_empty());
-        assert!(rt; !from.failed() && !to.failed());
+        expect_report(&rt, rt.alloc(), "csr", input, (50, 100), status, text);
     }
     Ok(())
 }

@@ -1,10 +1,7 @@
 //! What stands plainly, and nothing else, shown.
 
-use super::CERTIFICATE;
 use super::certificates::LINES;
-use super::memory::{MemorySink, MemorySource};
-use crate::parts::{Sink, Source};
-use crate::runs::run;
+use super::{CERTIFICATE, expect_report};
 use std::test::Fail;
 
 const GENERIC: &str = "refused: generic error\n";
@@ -96,13 +93,7 @@ fn plain_alone(rt: HostRuntime) -> Result<(), Fail> {
         ),
     ];
     for (command, input, status, text) in rows {
-        let mut from = MemorySource::new(input, 1000, 50);
-        let mut to = MemorySink::new(Vec::new(rt.alloc()), 1000, 1000, 100);
-        let answered = run(rt.alloc(), command, &mut from, &mut to);
-        assert_eq!(rt; to.bytes(), text.as_bytes());
-        assert_eq!(rt; answered, status);
-        assert!(rt; from.rest().is_empty());
-        assert!(rt; !from.failed() && !to.failed());
+        expect_report(&rt, rt.alloc(), command, input, (50, 100), status, text);
     }
     Ok(())
 }

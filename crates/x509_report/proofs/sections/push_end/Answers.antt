@@ -2,8 +2,8 @@
 use Rattle.std.proofs.Common.{◌++◌, List, ℕ, codes}
 use Rattle.std.specs.Prelude.{string_bytes}
 use Rattle.x509_dump.proofs.Shown.{both}
-use Rattle.x509_report_pages.specs.Elements.{closings}
-use Rattle.x509_report_pages.specs.Octets.{octets_page}
+use Rattle.x509_dump.specs.PageElements.{closings}
+use Rattle.x509_dump.specs.PageOctets.{octets_page}
 use Rattle.x509_report.specs.Sections.{mark_behind, section_end}
 use Rattle.x509_report.proofs.sections.push_end.Goals as goal
 

@@ -1,7 +1,7 @@
 use Rattle.std.proofs.Common.{◌++◌, ◌∷◌, [], codes, length, ap, ◌∙◌}
 use Rattle.json.specs.Token.{key}
 use Rattle.x509_report_lines.specs.Says.{count, written}
-use Rattle.x509_report_values.specs.Octets.{fingerprint}
+use Rattle.x509_report_objects.specs.Octets.{fingerprint}
 use Rattle.x509_report_objects.proofs.objects.say_octets.Goals as goal
 
 pub returns : goal.returns

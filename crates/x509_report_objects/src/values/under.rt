@@ -1,0 +1,147 @@
+//! Values under a key.
+
+ghost use Rattle.std.specs.Prelude.{◌≡◌, [], ◌∷◌, ◌++◌, IfSome, OnOk, option_map};
+ghost use Rattle.json.specs.Json as json;
+ghost use Rattle.json.specs.Token.{key, string};
+ghost use Rattle.x509_report_lines.specs.Says.{Says, SaysUnder, optional, count};
+ghost use Rattle.x509_report_objects.specs.Octets.{fingerprint, hex};
+
+use sha2::{Digest, Sha256};
+use std::alloc::{AllocError, Global};
+use std::fmt;
+use x509_report_lines::Line;
+
+/// A text under a key.
+pub fn text_under(out: &mut Line, name: &str, text: &str) -> Result<(), AllocError>
+    ensures { SaysUnder result out.old out.new name.now (json.string text.now) }
+{
+    out.key(name)?;
+    out.string(text)?;
+    Ok(())
+}
+
+/// A number under a key.
+pub fn count_under(out: &mut Line, name: &str, n: u64) -> Result<(), AllocError>
+    ensures { SaysUnder result out.old out.new name.now (count n) }
+{
+    out.key(name)?;
+    out.u64(n)?;
+    Ok(())
+}
+
+/// Whether something holds, under a key.
+pub fn truth_under(out: &mut Line, name: &str, b: bool) -> Result<(), AllocError>
+    ensures { SaysUnder result out.old out.new name.now (json.boolean b) }
+{
+    out.key(name)?;
+    out.boolean(b)?;
+    Ok(())
+}
+
+/// A number that may be absent, under a key.
+pub fn optional_count_under(out: &mut Line, name: &str, n: Option<u32>) -> Result<(), AllocError>
+    ensures { SaysUnder result out.old out.new name.now (optional count n) }
+{
+    out.key(name)?;
+    match n {
+        Some(n) => out.u64(u64::from(n)),
+        None => out.null(),
+    }
+}
+
+/// What a value shows, under a key.
+pub fn shown_under<T: fmt::Display>(
+    alloc: Global,
+    out: &mut Line,
+    name: &str,
+    value: &T,
+) -> Result<(), AllocError>
+    ensures { IfSome (T.output value.now) (λ shown. SaysUnder result out.old out.new name.now (json.string shown)) }
+{
+    let text = format!(in alloc; "{value}")?;
+    out.key(name)?;
+    out.string(&text)?;
+    Ok(())
+}
+
+/// Octets in hex.
+pub fn say_hex(alloc: Global, out: &mut Line, octets: &[u8]) -> Result<(), AllocError>
+    ensures { Says result out.old out.new (hex octets.now) }
+{
+    let text = hex::encode(alloc, octets)?;
+    out.string(&text)
+}
+
+/// Octets in hex, under a key.
+pub fn hex_under(alloc: Global, out: &mut Line, name: &str, octets: &[u8]) -> Result<(), AllocError>
+    ensures { SaysUnder result out.old out.new name.now (hex octets.now) }
+{
+    out.key(name)?;
+    say_hex(alloc, out, octets)
+}
+
+/// A text that may be absent, under a key.
+pub fn optional_text_under(out: &mut Line, name: &str, text: Option<&str>) -> Result<(), AllocError>
+    ensures { SaysUnder result out.old out.new name.now (optional json.string (option_map (λ s. s.now) text.entry)) }
+{
+    out.key(name)?;
+    match text {
+        Some(text) => out.string(text),
+        None => out.null(),
+    }
+}
+
+/// Octets that may be absent, in hex, under a key.
+pub fn optional_hex_under(
+    alloc: Global,
+    out: &mut Line,
+    name: &str,
+    octets: Option<&[u8]>,
+) -> Result<(), AllocError>
+    ensures { SaysUnder result out.old out.new name.now (optional hex (option_map (λ s. s.now) octets.entry)) }
+{
+    match octets {
+        Some(octets) => hex_under(alloc, out, name, octets),
+        None => {
+            out.key(name)?;
+            out.null()
+        }
+    }
+}
+
+/// What isn't there, under a key.
+pub fn null_under(out: &mut Line, name: &str) -> Result<(), AllocError>
+    ensures { SaysUnder result out.old out.new name.now json.null }
+{
+    out.key(name)?;
+    out.null()
+}
+
+/// The SHA-256 of octets where fingerprints are wanted, under a key.
+pub fn fingerprint_under(
+    alloc: Global,
+    out: &mut Line,
+    name: &str,
+    wanted: bool,
+    octets: &[u8],
+) -> Result<(), AllocError>
+    ensures { SaysUnder result out.old out.new name.now (fingerprint wanted octets.now) }
+{
+    if wanted {
+        let digest = Sha256::digest(octets);
+        hex_under(alloc, out, name, &digest)
+    } else {
+        null_under(out, name)
+    }
+}
+
+/// A size that may be absent, under a key.
+pub fn optional_size_under(out: &mut Line, name: &str, n: Option<usize>) -> Result<(), AllocError>
+    ensures { SaysUnder result out.old out.new name.now (optional count n) }
+{
+    out.key(name)?;
+    match n {
+        Some(n) => out.u64(n as u64),
+        None => out.null(),
+    }
+}

@@ -1,8 +1,0 @@
-use Rattle.std.proofs.Common.{◌≡◌, map}
-use Rattle.x509_names.specs.Names.{attribute_of, attributes_left, relative_name_of}
-use Rattle.x509_report_lines.specs.Says.{each_written}
-use Rattle.x509_report_values.specs.Names.{attribute_report}
-use Rattle.x509_report_values.proofs.names.say_attributes.Given as goal
-
-abbrev pub invariant-loop-attribute : goal.invariant-loop-attribute
-invariant-loop-attribute l = each_written attribute_report l.out (map attribute_of (attributes_left l.attribute-iterator)) ≡ each_written attribute_report l.initial.out (relative_name_of l.fn.name)
