@@ -1,3 +1,5 @@
+pub mod ExtensionEvents
+pub mod ExtensionVisits
 pub mod CertificateEvents
 pub mod CertificateVisits
 pub mod ListEvents

@@ -2,19 +2,13 @@
 use Rattle.std.specs.Prelude.{map, option_copied}
 use Rattle.x509_der.specs.Primitives.{bit_string}
 use Rattle.x509_der.specs.Promises.{option_view}
-use Rattle.x509_der.specs.Unsigned.{unsigned_bytes}
 use Rattle.x509_fields.specs.Algorithm.{algorithm_of}
 use Rattle.x509_names.specs.Names.{name_of}
 use Rattle.x509_fields.specs.Times.{time_of}
-use Rattle.x509_general_names.specs.AlternativeNames.{issuer_names_of}
-use Rattle.x509_general_names.specs.AuthorityKeyIdentifier.{authority_key_identifier_of}
-use Rattle.x509_general_names.specs.InformationAccess.{authority_accesses_of}
-use Rattle.x509_general_names.specs.IssuingDistributionPoint.{issuing_point_of}
-use Rattle.x509_values.specs.Timestamp.{timestamp_of}
-use Rattle.x509_extensions.specs.Extension.{extension_of}
 use Rattle.x509_lists.specs.RevokedCertificate.{revoked_of}
 use Rattle.x509_lists.specs.TbsCertList.{tbs_list_of}
 use Rattle.x509_visitors.specs.ListEvents as events
+use Rattle.x509_visitors.specs.ExtensionVisits as extension_visits
 use Rattle.x509_visitors.specs.declared.list_visit.ListVisit.{ListVisit}
 use Rattle.x509_visitors.specs.declared.list_visit.ListVisit.TheVariants as visits
 
@@ -29,16 +23,4 @@ event_of (visits.ThisUpdate v) = events.this_update (time_of v.now)
 event_of (visits.NextUpdate v) = events.next_update (option_view time_of (option_copied v))
 event_of (visits.RevokedCertificates v) = events.revoked_certificates (map revoked_of v.now)
 event_of (visits.RevokedCertificate v) = events.revoked_certificate (revoked_of v.now)
-event_of (visits.PreExtensions v) = events.pre_extensions (map extension_of v.now)
-event_of (visits.Extension v) = events.extension (extension_of v.now)
-event_of (visits.AuthorityInformationAccess v) = events.authority_information_access (authority_accesses_of v.now)
-event_of (visits.AuthorityKeyIdentifier v) = events.authority_key_identifier (authority_key_identifier_of v.now)
-event_of (visits.IssuerAlternativeName v) = events.issuer_alternative_name (issuer_names_of v.now)
-event_of (visits.Timestamps v) = events.timestamps (map timestamp_of v.now)
-event_of (visits.CrlNumber v) = events.crl_number (unsigned_bytes v.now)
-event_of (visits.InvalidityDate v) = events.invalidity_date (time_of v.now)
-event_of (visits.IssuingDistributionPoint v) = events.issuing_distribution_point (issuing_point_of v.now)
-event_of (visits.ReasonCode v) = events.reason_code (v.now.0)
-event_of (visits.ParseError v error) = events.parse_error (extension_of v.now) error.now
-event_of (visits.Unknown v) = events.unknown (extension_of v.now)
-event_of (visits.PostExtensions v) = events.post_extensions (map extension_of v.now)
+event_of (visits.Extensions v) = events.of_extensions (extension_visits.event_of v)

@@ -1,7 +1,12 @@
 //! Visitors with a method for each part.
 
+ghost use Rattle.x509_validators.specs.Visits.{StepsOrSkips};
+ghost use Rattle.x509_visitors.specs.CertificateEvents.{of_extensions};
+ghost use Rattle.x509_visitors.specs.ExtensionVisits.{event_of};
+
 use crate::certificate_visit::{CertificateVisit, CertificateVisits};
 use crate::certificate_walk::WalkCertificate;
+use crate::extension_visit::ExtensionVisit;
 use x509_certs::{TbsCertificate, UniqueIdentifier, Validity, X509Certificate};
 use x509_der::{BerError, BitString, Err};
 use x509_extensions::X509Extension;
@@ -52,6 +57,7 @@ pub trait X509CertificateVisitor {
     ghost use Rattle.x509_certs.specs.Validity.{period_of};
     ghost use Rattle.x509_validators.specs.Visits.{Visited, StepsOrSkips, Walks};
     ghost use Rattle.x509_visitors.specs.CertificateEvents as events;
+    ghost use Rattle.x509_visitors.specs.ExtensionEvents as extension_event;
 
     // what the visits that are written do
     ghost step: { Self → events.Event → Visited → Self → Type 0 } = { λ _ _ _ _. ⊥ };
@@ -179,7 +185,7 @@ pub trait X509CertificateVisitor {
 
     /// All extensions, before each of them (RFC 5280, section 4.1.2.9).
     fn pre_visit_extensions(&mut self, extensions: &[X509Extension<'_>]) -> Result<(), X509Error>
-        ensures { StepsOrSkips step self.old (events.pre_extensions (map extension_of extensions.now)) result self.new }
+        ensures { StepsOrSkips step self.old (events.of_extensions (extension_event.pre_extensions (map extension_of extensions.now))) result self.new }
     {
         let _ = extensions;
         Ok(())
@@ -187,7 +193,7 @@ pub trait X509CertificateVisitor {
 
     /// Each extension, before what its value says (RFC 5280, section 4.2).
     fn visit_extension(&mut self, extension: &X509Extension<'_>) -> Result<(), X509Error>
-        ensures { StepsOrSkips step self.old (events.extension (extension_of extension.now)) result self.new }
+        ensures { StepsOrSkips step self.old (events.of_extensions (extension_event.extension (extension_of extension.now))) result self.new }
     {
         let _ = extension;
         Ok(())
@@ -198,7 +204,8 @@ pub trait X509CertificateVisitor {
         &mut self,
         access: &AuthorityInfoAccess<'_>,
     ) -> Result<(), X509Error>
-        ensures { StepsOrSkips step self.old (events.authority_information_access (authority_accesses_of access.now)) result self.new }
+        ensures { StepsOrSkips step self.old (events.of_extensions (extension_event.authority_information_access (authority_accesses_of access.now)))
+            result self.new }
     {
         let _ = access;
         Ok(())
@@ -209,7 +216,8 @@ pub trait X509CertificateVisitor {
         &mut self,
         identifier: &AuthorityKeyIdentifier<'_>,
     ) -> Result<(), X509Error>
-        ensures { StepsOrSkips step self.old (events.authority_key_identifier (authority_key_identifier_of identifier.now)) result self.new }
+        ensures { StepsOrSkips step self.old (events.of_extensions (extension_event.authority_key_identifier (authority_key_identifier_of identifier.now)))
+            result self.new }
     {
         let _ = identifier;
         Ok(())
@@ -220,7 +228,7 @@ pub trait X509CertificateVisitor {
         &mut self,
         constraints: &BasicConstraints,
     ) -> Result<(), X509Error>
-        ensures { StepsOrSkips step self.old (events.basic_constraints (basic_constraints_of constraints.now)) result self.new }
+        ensures { StepsOrSkips step self.old (events.of_extensions (extension_event.basic_constraints (basic_constraints_of constraints.now))) result self.new }
     {
         let _ = constraints;
         Ok(())
@@ -231,7 +239,7 @@ pub trait X509CertificateVisitor {
         &mut self,
         policies: &CertificatePolicies<'_>,
     ) -> Result<(), X509Error>
-        ensures { StepsOrSkips step self.old (events.certificate_policies (map policy_of policies.now)) result self.new }
+        ensures { StepsOrSkips step self.old (events.of_extensions (extension_event.certificate_policies (map policy_of policies.now))) result self.new }
     {
         let _ = policies;
         Ok(())
@@ -242,7 +250,7 @@ pub trait X509CertificateVisitor {
         &mut self,
         points: &CRLDistributionPoints<'_>,
     ) -> Result<(), X509Error>
-        ensures { StepsOrSkips step self.old (events.crl_distribution_points (points_of points.now)) result self.new }
+        ensures { StepsOrSkips step self.old (events.of_extensions (extension_event.crl_distribution_points (points_of points.now))) result self.new }
     {
         let _ = points;
         Ok(())
@@ -253,7 +261,7 @@ pub trait X509CertificateVisitor {
         &mut self,
         usage: &ExtendedKeyUsage<'_>,
     ) -> Result<(), X509Error>
-        ensures { StepsOrSkips step self.old (events.extended_key_usage (usages_of usage.now)) result self.new }
+        ensures { StepsOrSkips step self.old (events.of_extensions (extension_event.extended_key_usage (usages_of usage.now))) result self.new }
     {
         let _ = usage;
         Ok(())
@@ -264,7 +272,7 @@ pub trait X509CertificateVisitor {
         &mut self,
         policy: &InhibitAnyPolicy,
     ) -> Result<(), X509Error>
-        ensures { StepsOrSkips step self.old (events.inhibit_any_policy (policy.now.skip_certs)) result self.new }
+        ensures { StepsOrSkips step self.old (events.of_extensions (extension_event.inhibit_any_policy (policy.now.skip_certs))) result self.new }
     {
         let _ = policy;
         Ok(())
@@ -275,7 +283,7 @@ pub trait X509CertificateVisitor {
         &mut self,
         names: &IssuerAlternativeName<'_>,
     ) -> Result<(), X509Error>
-        ensures { StepsOrSkips step self.old (events.issuer_alternative_name (issuer_names_of names.now)) result self.new }
+        ensures { StepsOrSkips step self.old (events.of_extensions (extension_event.issuer_alternative_name (issuer_names_of names.now))) result self.new }
     {
         let _ = names;
         Ok(())
@@ -283,7 +291,7 @@ pub trait X509CertificateVisitor {
 
     /// What the key may be used for (RFC 5280, section 4.2.1.3).
     fn visit_extension_key_usage(&mut self, usage: &KeyUsage) -> Result<(), X509Error>
-        ensures { StepsOrSkips step self.old (events.key_usage (key_usage_of usage.now)) result self.new }
+        ensures { StepsOrSkips step self.old (events.of_extensions (extension_event.key_usage (key_usage_of usage.now))) result self.new }
     {
         let _ = usage;
         Ok(())
@@ -291,7 +299,7 @@ pub trait X509CertificateVisitor {
 
     /// What the certificate may be used for, in the words of Netscape.
     fn visit_extension_nscert_type(&mut self, kind: &NSCertType) -> Result<(), X509Error>
-        ensures { StepsOrSkips step self.old (events.ns_cert_type (ns_cert_type_of kind.now)) result self.new }
+        ensures { StepsOrSkips step self.old (events.of_extensions (extension_event.ns_cert_type (ns_cert_type_of kind.now))) result self.new }
     {
         let _ = kind;
         Ok(())
@@ -302,7 +310,7 @@ pub trait X509CertificateVisitor {
         &mut self,
         constraints: &NameConstraints<'_>,
     ) -> Result<(), X509Error>
-        ensures { StepsOrSkips step self.old (events.name_constraints (constraints_of constraints.now)) result self.new }
+        ensures { StepsOrSkips step self.old (events.of_extensions (extension_event.name_constraints (constraints_of constraints.now))) result self.new }
     {
         let _ = constraints;
         Ok(())
@@ -310,7 +318,7 @@ pub trait X509CertificateVisitor {
 
     /// A comment for readers, of Netscape.
     fn visit_extension_nscert_comment(&mut self, comment: &str) -> Result<(), X509Error>
-        ensures { StepsOrSkips step self.old (events.ns_comment comment.now) result self.new }
+        ensures { StepsOrSkips step self.old (events.of_extensions (extension_event.ns_comment comment.now)) result self.new }
     {
         let _ = comment;
         Ok(())
@@ -321,7 +329,8 @@ pub trait X509CertificateVisitor {
         &mut self,
         constraints: &PolicyConstraints,
     ) -> Result<(), X509Error>
-        ensures { StepsOrSkips step self.old (events.policy_constraints (policy_constraints_of constraints.now)) result self.new }
+        ensures { StepsOrSkips step self.old (events.of_extensions (extension_event.policy_constraints (policy_constraints_of constraints.now)))
+            result self.new }
     {
         let _ = constraints;
         Ok(())
@@ -332,7 +341,7 @@ pub trait X509CertificateVisitor {
         &mut self,
         mappings: &PolicyMappings<'_>,
     ) -> Result<(), X509Error>
-        ensures { StepsOrSkips step self.old (events.policy_mappings (policy_mappings_of mappings.now)) result self.new }
+        ensures { StepsOrSkips step self.old (events.of_extensions (extension_event.policy_mappings (policy_mappings_of mappings.now))) result self.new }
     {
         let _ = mappings;
         Ok(())
@@ -343,7 +352,7 @@ pub trait X509CertificateVisitor {
         &mut self,
         timestamps: &[SignedCertificateTimestamp<'_>],
     ) -> Result<(), X509Error>
-        ensures { StepsOrSkips step self.old (events.timestamps (map timestamp_of timestamps.now)) result self.new }
+        ensures { StepsOrSkips step self.old (events.of_extensions (extension_event.timestamps (map timestamp_of timestamps.now))) result self.new }
     {
         let _ = timestamps;
         Ok(())
@@ -354,7 +363,7 @@ pub trait X509CertificateVisitor {
         &mut self,
         names: &SubjectAlternativeName<'_>,
     ) -> Result<(), X509Error>
-        ensures { StepsOrSkips step self.old (events.subject_alternative_name (subject_names_of names.now)) result self.new }
+        ensures { StepsOrSkips step self.old (events.of_extensions (extension_event.subject_alternative_name (subject_names_of names.now))) result self.new }
     {
         let _ = names;
         Ok(())
@@ -362,7 +371,8 @@ pub trait X509CertificateVisitor {
 
     /// The identifier of the subject's key (RFC 5280, section 4.2.1.2).
     fn visit_extension_ski(&mut self, identifier: &KeyIdentifier<'_>) -> Result<(), X509Error>
-        ensures { StepsOrSkips step self.old (events.subject_key_identifier (key_identifier_of identifier.now)) result self.new }
+        ensures { StepsOrSkips step self.old (events.of_extensions (extension_event.subject_key_identifier (key_identifier_of identifier.now)))
+            result self.new }
     {
         let _ = identifier;
         Ok(())
@@ -374,7 +384,7 @@ pub trait X509CertificateVisitor {
         extension: &X509Extension<'_>,
         error: &Err<BerError>,
     ) -> Result<(), X509Error>
-        ensures { StepsOrSkips step self.old (events.parse_error (extension_of extension.now) error.now) result self.new }
+        ensures { StepsOrSkips step self.old (events.of_extensions (extension_event.parse_error (extension_of extension.now) error.now)) result self.new }
     {
         let _ = extension;
         let _ = error;
@@ -383,7 +393,7 @@ pub trait X509CertificateVisitor {
 
     /// An extension that no reader is known for, that wasn't looked at, or that has no place in a certificate.
     fn visit_extension_unknown(&mut self, extension: &X509Extension<'_>) -> Result<(), X509Error>
-        ensures { StepsOrSkips step self.old (events.unknown (extension_of extension.now)) result self.new }
+        ensures { StepsOrSkips step self.old (events.of_extensions (extension_event.unknown (extension_of extension.now))) result self.new }
     {
         let _ = extension;
         Ok(())
@@ -391,7 +401,7 @@ pub trait X509CertificateVisitor {
 
     /// All extensions, after each of them.
     fn post_visit_extensions(&mut self, extensions: &[X509Extension<'_>]) -> Result<(), X509Error>
-        ensures { StepsOrSkips step self.old (events.post_extensions (map extension_of extensions.now)) result self.new }
+        ensures { StepsOrSkips step self.old (events.of_extensions (extension_event.post_extensions (map extension_of extensions.now))) result self.new }
     {
         let _ = extensions;
         Ok(())
@@ -422,56 +432,70 @@ impl<V: X509CertificateVisitor> CertificateVisits for V {
             CertificateVisit::SubjectPublicKeyInfo(key) => self.visit_subject_public_key_info(key),
             CertificateVisit::IssuerUniqueId(id) => self.visit_issuer_unique_id(id),
             CertificateVisit::SubjectUniqueId(id) => self.visit_subject_unique_id(id),
-            CertificateVisit::PreExtensions(extensions) => self.pre_visit_extensions(extensions),
-            CertificateVisit::Extension(extension) => self.visit_extension(extension),
-            CertificateVisit::AuthorityInformationAccess(access) => {
-                self.visit_extension_authority_information_access(access)
-            }
-            CertificateVisit::AuthorityKeyIdentifier(identifier) => {
-                self.visit_extension_aki(identifier)
-            }
-            CertificateVisit::BasicConstraints(constraints) => {
-                self.visit_extension_basic_constraints(constraints)
-            }
-            CertificateVisit::CertificatePolicies(policies) => {
-                self.visit_extension_certificate_policies(policies)
-            }
-            CertificateVisit::CrlDistributionPoints(points) => {
-                self.visit_extension_crl_distribution_points(points)
-            }
-            CertificateVisit::ExtendedKeyUsage(usage) => {
-                self.visit_extension_extended_key_usage(usage)
-            }
-            CertificateVisit::InhibitAnyPolicy(policy) => {
-                self.visit_extension_inhibit_anypolicy(policy)
-            }
-            CertificateVisit::IssuerAlternativeName(names) => {
-                self.visit_extension_issuer_alternative_name(names)
-            }
-            CertificateVisit::KeyUsage(usage) => self.visit_extension_key_usage(usage),
-            CertificateVisit::NsCertType(kind) => self.visit_extension_nscert_type(kind),
-            CertificateVisit::NameConstraints(constraints) => {
-                self.visit_extension_name_constraints(constraints)
-            }
-            CertificateVisit::NsComment(comment) => self.visit_extension_nscert_comment(comment),
-            CertificateVisit::PolicyConstraints(constraints) => {
-                self.visit_extension_policy_constraints(constraints)
-            }
-            CertificateVisit::PolicyMappings(mappings) => {
-                self.visit_extension_policy_mappings(mappings)
-            }
-            CertificateVisit::Timestamps(timestamps) => self.visit_extension_sct(timestamps),
-            CertificateVisit::SubjectAlternativeName(names) => {
-                self.visit_extension_subject_alternative_name(names)
-            }
-            CertificateVisit::SubjectKeyIdentifier(identifier) => {
-                self.visit_extension_ski(identifier)
-            }
-            CertificateVisit::ParseError(extension, error) => {
-                self.visit_extension_parse_error(extension, error)
-            }
-            CertificateVisit::Unknown(extension) => self.visit_extension_unknown(extension),
-            CertificateVisit::PostExtensions(extensions) => self.post_visit_extensions(extensions),
+            CertificateVisit::Extensions(visit) => visit_extensions(self, visit),
         }
+    }
+}
+
+// A visit of the extensions of a certificate; of a value that has no place in one there is none.
+#[tactic(auto, unfolding(crate::specs::ExtensionVisits::event_of))]
+fn visit_extensions<V: X509CertificateVisitor>(
+    visitor: &mut V,
+    visit: ExtensionVisit<'_, '_>,
+) -> Result<(), X509Error>
+    ensures { StepsOrSkips V.step visitor.old (of_extensions (event_of visit.entry)) result visitor.new }
+{
+    match visit {
+        ExtensionVisit::PreExtensions(extensions) => visitor.pre_visit_extensions(extensions),
+        ExtensionVisit::Extension(extension) => visitor.visit_extension(extension),
+        ExtensionVisit::AuthorityInformationAccess(access) => {
+            visitor.visit_extension_authority_information_access(access)
+        }
+        ExtensionVisit::AuthorityKeyIdentifier(identifier) => {
+            visitor.visit_extension_aki(identifier)
+        }
+        ExtensionVisit::BasicConstraints(constraints) => {
+            visitor.visit_extension_basic_constraints(constraints)
+        }
+        ExtensionVisit::CertificatePolicies(policies) => {
+            visitor.visit_extension_certificate_policies(policies)
+        }
+        ExtensionVisit::CrlDistributionPoints(points) => {
+            visitor.visit_extension_crl_distribution_points(points)
+        }
+        ExtensionVisit::ExtendedKeyUsage(usage) => {
+            visitor.visit_extension_extended_key_usage(usage)
+        }
+        ExtensionVisit::InhibitAnyPolicy(policy) => {
+            visitor.visit_extension_inhibit_anypolicy(policy)
+        }
+        ExtensionVisit::IssuerAlternativeName(names) => {
+            visitor.visit_extension_issuer_alternative_name(names)
+        }
+        ExtensionVisit::KeyUsage(usage) => visitor.visit_extension_key_usage(usage),
+        ExtensionVisit::NsCertType(kind) => visitor.visit_extension_nscert_type(kind),
+        ExtensionVisit::NameConstraints(constraints) => {
+            visitor.visit_extension_name_constraints(constraints)
+        }
+        ExtensionVisit::NsComment(comment) => visitor.visit_extension_nscert_comment(comment),
+        ExtensionVisit::PolicyConstraints(constraints) => {
+            visitor.visit_extension_policy_constraints(constraints)
+        }
+        ExtensionVisit::PolicyMappings(mappings) => {
+            visitor.visit_extension_policy_mappings(mappings)
+        }
+        ExtensionVisit::Timestamps(timestamps) => visitor.visit_extension_sct(timestamps),
+        ExtensionVisit::SubjectAlternativeName(names) => {
+            visitor.visit_extension_subject_alternative_name(names)
+        }
+        ExtensionVisit::SubjectKeyIdentifier(identifier) => {
+            visitor.visit_extension_ski(identifier)
+        }
+        ExtensionVisit::ParseError(extension, error) => {
+            visitor.visit_extension_parse_error(extension, error)
+        }
+        ExtensionVisit::Unknown(extension) => visitor.visit_extension_unknown(extension),
+        ExtensionVisit::PostExtensions(extensions) => visitor.post_visit_extensions(extensions),
+        _ => Ok(()),
     }
 }

@@ -1,17 +1,18 @@
 //! The walks.
 
-ghost use Rattle.std.specs.Prelude.{◌≡◌, [], ◌∷◌, map};
-ghost use Rattle.std.specs.List.{flat_map};
+ghost use Rattle.std.specs.Prelude.{[], ◌∷◌, map};
 ghost use Rattle.x509_extensions.specs.Extension.{extension_of};
 ghost use Rattle.x509_certs.specs.Certificate.{certificate_of};
 ghost use Rattle.x509_certs.specs.TbsCertificate.{tbs_of};
 ghost use Rattle.x509_validators.specs.Visits.{Walks};
-ghost use Rattle.x509_visitors.specs.CertificateEvents.{value_event, extension_events, extensions_events, field_events, signature_events};
+ghost use Rattle.x509_visitors.specs.CertificateEvents.{of_extensions, field_events, signature_events};
 ghost use Rattle.x509_visitors.specs.CertificateVisits.{event_of};
+ghost use Rattle.x509_visitors.specs.ExtensionEvents.{extensions_events, in_certificate};
 
-use crate::certificate_visit::{CertificateVisit, CertificateVisits};
+use crate::certificate_visit::{CertificateVisit, CertificateVisits, InCertificate};
+use crate::extension_walk::walk_extensions;
 use x509_certs::{TbsCertificate, X509Certificate};
-use x509_extensions::{ParsedExtension, X509Extension};
+use x509_extensions::X509Extension;
 use x509_fields::X509Error;
 
 /// A value that a visitor of certificates is led over: a certificate, or its signed part alone.
@@ -59,7 +60,7 @@ impl WalkCertificate for TbsCertificate<'_> {
     #[tactic(auto, using(x509_validators::proofs::Walking::walking), unfolding(crate::specs::CertificateEvents::tbs_events))]
     fn walk<V: CertificateVisits>(&self, visitor: &mut V) -> Result<(), X509Error> {
         walk_fields(self, visitor)?;
-        walk_extensions(self.extensions(), visitor)
+        walk_own_extensions(self.extensions(), visitor)
     }
 }
 
@@ -123,89 +124,12 @@ fn walk_signature<V: CertificateVisits>(
     )
 }
 
-// The extensions together, each of them, and all of them once more.
-#[tactic(auto, using(x509_validators::proofs::Walking::walking), unfolding(crate::specs::CertificateEvents::extensions_events, crate::specs::CertificateVisits::event_of))]
-fn walk_extensions<V: CertificateVisits>(
+// The extensions.
+fn walk_own_extensions<V: CertificateVisits>(
     extensions: &[X509Extension<'_>],
     visitor: &mut V,
 ) -> Result<(), X509Error>
-    ensures { Walks V.visit_step visitor.old (extensions_events (map extension_of extensions.now)) result visitor.new }
+    ensures { Walks V.visit_step visitor.old (map of_extensions (extensions_events in_certificate (map extension_of extensions.now))) result visitor.new }
 {
-    visit_one(CertificateVisit::PreExtensions(extensions), visitor)?;
-    walk_each(extensions, visitor)?;
-    visit_one(CertificateVisit::PostExtensions(extensions), visitor)
-}
-
-// Each extension, in order.
-#[tactic(auto, using(x509_validators::proofs::Walking::walking))]
-fn walk_each<V: CertificateVisits>(
-    extensions: &[X509Extension<'_>],
-    visitor: &mut V,
-) -> Result<(), X509Error>
-    ensures { Walks V.visit_step visitor.old (flat_map extension_events (map extension_of extensions.now)) result visitor.new }
-{
-    for extension in extensions {
-        walk_extension(extension, visitor)?;
-    }
-    Ok(())
-}
-
-// An extension, and then what its value says.
-#[tactic(auto, using(x509_validators::proofs::Walking::walking), unfolding(crate::specs::CertificateEvents::extension_events, crate::specs::CertificateVisits::event_of))]
-fn walk_extension<V: CertificateVisits>(
-    extension: &X509Extension<'_>,
-    visitor: &mut V,
-) -> Result<(), X509Error>
-    ensures { Walks V.visit_step visitor.old (extension_events (extension_of extension.now)) result visitor.new }
-{
-    visit_one(CertificateVisit::Extension(extension), visitor)?;
-    visit_one(value_visit(extension), visitor)
-}
-
-// The visit of what the extension's value says.
-#[tactic(auto, unfolding(crate::specs::CertificateEvents::value_event, crate::specs::CertificateVisits::event_of))]
-fn value_visit<'v, 'a>(extension: &'v X509Extension<'a>) -> CertificateVisit<'v, 'a>
-    ensures { event_of result ≡ value_event (extension_of extension.now) (extension_of extension.now).parsed }
-{
-    match extension.parsed_extension() {
-        ParsedExtension::AuthorityInfoAccess(access) => {
-            CertificateVisit::AuthorityInformationAccess(access)
-        }
-        ParsedExtension::AuthorityKeyIdentifier(identifier) => {
-            CertificateVisit::AuthorityKeyIdentifier(identifier)
-        }
-        ParsedExtension::BasicConstraints(constraints) => {
-            CertificateVisit::BasicConstraints(constraints)
-        }
-        ParsedExtension::CertificatePolicies(policies) => {
-            CertificateVisit::CertificatePolicies(policies)
-        }
-        ParsedExtension::CRLDistributionPoints(points) => {
-            CertificateVisit::CrlDistributionPoints(points)
-        }
-        ParsedExtension::ExtendedKeyUsage(usage) => CertificateVisit::ExtendedKeyUsage(usage),
-        ParsedExtension::InhibitAnyPolicy(policy) => CertificateVisit::InhibitAnyPolicy(policy),
-        ParsedExtension::IssuerAlternativeName(names) => {
-            CertificateVisit::IssuerAlternativeName(names)
-        }
-        ParsedExtension::KeyUsage(usage) => CertificateVisit::KeyUsage(usage),
-        ParsedExtension::NSCertType(kind) => CertificateVisit::NsCertType(kind),
-        ParsedExtension::NameConstraints(constraints) => {
-            CertificateVisit::NameConstraints(constraints)
-        }
-        ParsedExtension::NsCertComment(comment) => CertificateVisit::NsComment(comment),
-        ParsedExtension::PolicyConstraints(constraints) => {
-            CertificateVisit::PolicyConstraints(constraints)
-        }
-        ParsedExtension::PolicyMappings(mappings) => CertificateVisit::PolicyMappings(mappings),
-        ParsedExtension::SCT(timestamps) => CertificateVisit::Timestamps(timestamps.as_slice()),
-        ParsedExtension::SubjectAlternativeName(names) => {
-            CertificateVisit::SubjectAlternativeName(names)
-        }
-        ParsedExtension::SubjectKeyIdentifier(identifier) => {
-            CertificateVisit::SubjectKeyIdentifier(identifier)
-        }
-        ParsedExtension::ParseError { error } => CertificateVisit::ParseError(extension, error),
-        _ => CertificateVisit::Unknown(extension),
-    }
+    walk_extensions::<InCertificate, V>(extensions, visitor)
 }

@@ -1,14 +1,11 @@
 //! One visit.
 
-use x509_der::{BerError, BitString, Err, UnsignedBytes};
-use x509_extensions::X509Extension;
-use x509_fields::{ASN1Time, AlgorithmIdentifier, ReasonCode, X509Error, X509Version};
-use x509_general_names::{
-    AuthorityInfoAccess, AuthorityKeyIdentifier, IssuerAlternativeName, IssuingDistributionPoint,
-};
+use crate::extension_visit::ExtensionVisit;
+use crate::extension_walk::ExtensionVisits;
+use x509_der::BitString;
+use x509_fields::{ASN1Time, AlgorithmIdentifier, X509Error, X509Version};
 use x509_lists::{RevokedCertificate, TbsCertList};
 use x509_names::X509Name;
-use x509_values::SignedCertificateTimestamp;
 
 /// One visit of a walk over a list of revoked certificates, with what it is passed.
 #[derive(Clone, Copy, Debug)]
@@ -33,32 +30,8 @@ pub enum ListVisit<'v, 'a> {
     RevokedCertificates(&'v [RevokedCertificate<'a>]),
     /// A certificate that was revoked.
     RevokedCertificate(&'v RevokedCertificate<'a>),
-    /// All extensions, before each of them.
-    PreExtensions(&'v [X509Extension<'a>]),
-    /// An extension, before what its value says.
-    Extension(&'v X509Extension<'a>),
-    /// Where more about the issuer is found.
-    AuthorityInformationAccess(&'v AuthorityInfoAccess<'a>),
-    /// Which key of the issuer signed.
-    AuthorityKeyIdentifier(&'v AuthorityKeyIdentifier<'a>),
-    /// Other names of the issuer.
-    IssuerAlternativeName(&'v IssuerAlternativeName<'a>),
-    /// The promises of transparency logs.
-    Timestamps(&'v [SignedCertificateTimestamp<'a>]),
-    /// The number of the list.
-    CrlNumber(&'v UnsignedBytes<'a>),
-    /// Since when a certificate is held to be invalid.
-    InvalidityDate(&'v ASN1Time),
-    /// What the list covers.
-    IssuingDistributionPoint(&'v IssuingDistributionPoint<'a>),
-    /// Why a certificate was revoked.
-    ReasonCode(&'v ReasonCode),
-    /// An extension whose value can't be read, and why.
-    ParseError(&'v X509Extension<'a>, &'v Err<BerError>),
-    /// Any other extension.
-    Unknown(&'v X509Extension<'a>),
-    /// All extensions, after each of them.
-    PostExtensions(&'v [X509Extension<'a>]),
+    /// A visit of the extensions.
+    Extensions(ExtensionVisit<'v, 'a>),
 }
 
 /// Takes every visit of a walk over a list of revoked certificates, and says of each exactly what it does.
@@ -77,4 +50,25 @@ pub trait ListVisits {
     /// Any: the walk ends with it.
     fn visit(&mut self, visit: ListVisit<'_, '_>) -> Result<(), X509Error>
         ensures { visit_step self.old (event_of visit.entry) result self.new };
+}
+
+// What stands in a list.
+pub(crate) struct InList;
+
+impl<V: ListVisits> ExtensionVisits<InList> for V {
+    ghost use Rattle.x509_visitors.specs.ListEvents.{of_extensions};
+    ghost use Rattle.x509_visitors.specs.ExtensionEvents.{in_list};
+
+    ghost has_visit = { in_list };
+
+    ghost extension_step = { λ s x r t. V.visit_step s (of_extensions x) r t };
+
+    fn has_visit(visit: &ExtensionVisit<'_, '_>) -> bool {
+        visit.is_in_list()
+    }
+
+    #[tactic(auto, unfolding(crate::specs::ListVisits::event_of))]
+    fn visit_extensions(&mut self, visit: ExtensionVisit<'_, '_>) -> Result<(), X509Error> {
+        self.visit(ListVisit::Extensions(visit))
+    }
 }

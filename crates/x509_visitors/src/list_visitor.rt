@@ -1,5 +1,10 @@
 //! Visitors with a method for each part.
 
+ghost use Rattle.x509_validators.specs.Visits.{StepsOrSkips};
+ghost use Rattle.x509_visitors.specs.ListEvents.{of_extensions};
+ghost use Rattle.x509_visitors.specs.ExtensionVisits.{event_of};
+
+use crate::extension_visit::ExtensionVisit;
 use crate::list_visit::{ListVisit, ListVisits};
 use crate::list_walk::WalkRevocationList;
 use x509_der::{BerError, BitString, Err, UnsignedBytes};
@@ -39,6 +44,7 @@ pub trait CertificateRevocationListVisitor {
     ghost use Rattle.x509_lists.specs.TbsCertList.{tbs_list_of};
     ghost use Rattle.x509_validators.specs.Visits.{Visited, StepsOrSkips, Walks};
     ghost use Rattle.x509_visitors.specs.ListEvents as events;
+    ghost use Rattle.x509_visitors.specs.ExtensionEvents as extension_event;
 
     // what the visits that are written do
     ghost step: { Self → events.Event → Visited → Self → Type 0 } = { λ _ _ _ _. ⊥ };
@@ -150,7 +156,7 @@ pub trait CertificateRevocationListVisitor {
 
     /// All extensions, before each of them (RFC 5280, section 5.1.2.7).
     fn pre_visit_extensions(&mut self, extensions: &[X509Extension<'_>]) -> Result<(), X509Error>
-        ensures { StepsOrSkips step self.old (events.pre_extensions (map extension_of extensions.now)) result self.new }
+        ensures { StepsOrSkips step self.old (events.of_extensions (extension_event.pre_extensions (map extension_of extensions.now))) result self.new }
     {
         let _ = extensions;
         Ok(())
@@ -158,7 +164,7 @@ pub trait CertificateRevocationListVisitor {
 
     /// Each extension, before what its value says (RFC 5280, section 5.2).
     fn visit_extension(&mut self, extension: &X509Extension<'_>) -> Result<(), X509Error>
-        ensures { StepsOrSkips step self.old (events.extension (extension_of extension.now)) result self.new }
+        ensures { StepsOrSkips step self.old (events.of_extensions (extension_event.extension (extension_of extension.now))) result self.new }
     {
         let _ = extension;
         Ok(())
@@ -169,7 +175,8 @@ pub trait CertificateRevocationListVisitor {
         &mut self,
         access: &AuthorityInfoAccess<'_>,
     ) -> Result<(), X509Error>
-        ensures { StepsOrSkips step self.old (events.authority_information_access (authority_accesses_of access.now)) result self.new }
+        ensures { StepsOrSkips step self.old (events.of_extensions (extension_event.authority_information_access (authority_accesses_of access.now)))
+            result self.new }
     {
         let _ = access;
         Ok(())
@@ -180,7 +187,8 @@ pub trait CertificateRevocationListVisitor {
         &mut self,
         identifier: &AuthorityKeyIdentifier<'_>,
     ) -> Result<(), X509Error>
-        ensures { StepsOrSkips step self.old (events.authority_key_identifier (authority_key_identifier_of identifier.now)) result self.new }
+        ensures { StepsOrSkips step self.old (events.of_extensions (extension_event.authority_key_identifier (authority_key_identifier_of identifier.now)))
+            result self.new }
     {
         let _ = identifier;
         Ok(())
@@ -191,7 +199,7 @@ pub trait CertificateRevocationListVisitor {
         &mut self,
         names: &IssuerAlternativeName<'_>,
     ) -> Result<(), X509Error>
-        ensures { StepsOrSkips step self.old (events.issuer_alternative_name (issuer_names_of names.now)) result self.new }
+        ensures { StepsOrSkips step self.old (events.of_extensions (extension_event.issuer_alternative_name (issuer_names_of names.now))) result self.new }
     {
         let _ = names;
         Ok(())
@@ -202,7 +210,7 @@ pub trait CertificateRevocationListVisitor {
         &mut self,
         timestamps: &[SignedCertificateTimestamp<'_>],
     ) -> Result<(), X509Error>
-        ensures { StepsOrSkips step self.old (events.timestamps (map timestamp_of timestamps.now)) result self.new }
+        ensures { StepsOrSkips step self.old (events.of_extensions (extension_event.timestamps (map timestamp_of timestamps.now))) result self.new }
     {
         let _ = timestamps;
         Ok(())
@@ -210,7 +218,7 @@ pub trait CertificateRevocationListVisitor {
 
     /// The number of the list (RFC 5280, section 5.2.3).
     fn visit_extension_crl_number(&mut self, number: &UnsignedBytes<'_>) -> Result<(), X509Error>
-        ensures { StepsOrSkips step self.old (events.crl_number (unsigned_bytes number.now)) result self.new }
+        ensures { StepsOrSkips step self.old (events.of_extensions (extension_event.crl_number (unsigned_bytes number.now))) result self.new }
     {
         let _ = number;
         Ok(())
@@ -218,7 +226,7 @@ pub trait CertificateRevocationListVisitor {
 
     /// Since when a certificate is held to be invalid (RFC 5280, section 5.3.2).
     fn visit_extension_invalidity_date(&mut self, date: &ASN1Time) -> Result<(), X509Error>
-        ensures { StepsOrSkips step self.old (events.invalidity_date (time_of date.now)) result self.new }
+        ensures { StepsOrSkips step self.old (events.of_extensions (extension_event.invalidity_date (time_of date.now))) result self.new }
     {
         let _ = date;
         Ok(())
@@ -229,7 +237,7 @@ pub trait CertificateRevocationListVisitor {
         &mut self,
         point: &IssuingDistributionPoint<'_>,
     ) -> Result<(), X509Error>
-        ensures { StepsOrSkips step self.old (events.issuing_distribution_point (issuing_point_of point.now)) result self.new }
+        ensures { StepsOrSkips step self.old (events.of_extensions (extension_event.issuing_distribution_point (issuing_point_of point.now))) result self.new }
     {
         let _ = point;
         Ok(())
@@ -237,7 +245,7 @@ pub trait CertificateRevocationListVisitor {
 
     /// Why a certificate was revoked (RFC 5280, section 5.3.1).
     fn visit_extension_reason_code(&mut self, reason: &ReasonCode) -> Result<(), X509Error>
-        ensures { StepsOrSkips step self.old (events.reason_code (reason.now.0)) result self.new }
+        ensures { StepsOrSkips step self.old (events.of_extensions (extension_event.reason_code (reason.now.0))) result self.new }
     {
         let _ = reason;
         Ok(())
@@ -249,7 +257,7 @@ pub trait CertificateRevocationListVisitor {
         extension: &X509Extension<'_>,
         error: &Err<BerError>,
     ) -> Result<(), X509Error>
-        ensures { StepsOrSkips step self.old (events.parse_error (extension_of extension.now) error.now) result self.new }
+        ensures { StepsOrSkips step self.old (events.of_extensions (extension_event.parse_error (extension_of extension.now) error.now)) result self.new }
     {
         let _ = extension;
         let _ = error;
@@ -258,7 +266,7 @@ pub trait CertificateRevocationListVisitor {
 
     /// An extension that no reader is known for, that wasn't looked at, or that has no place in a list.
     fn visit_extension_unknown(&mut self, extension: &X509Extension<'_>) -> Result<(), X509Error>
-        ensures { StepsOrSkips step self.old (events.unknown (extension_of extension.now)) result self.new }
+        ensures { StepsOrSkips step self.old (events.of_extensions (extension_event.unknown (extension_of extension.now))) result self.new }
     {
         let _ = extension;
         Ok(())
@@ -266,7 +274,7 @@ pub trait CertificateRevocationListVisitor {
 
     /// All extensions, after each of them.
     fn post_visit_extensions(&mut self, extensions: &[X509Extension<'_>]) -> Result<(), X509Error>
-        ensures { StepsOrSkips step self.old (events.post_extensions (map extension_of extensions.now)) result self.new }
+        ensures { StepsOrSkips step self.old (events.of_extensions (extension_event.post_extensions (map extension_of extensions.now))) result self.new }
     {
         let _ = extensions;
         Ok(())
@@ -297,27 +305,43 @@ impl<V: CertificateRevocationListVisitor> ListVisits for V {
             ListVisit::RevokedCertificate(certificate) => {
                 self.visit_revoked_certificate(certificate)
             }
-            ListVisit::PreExtensions(extensions) => self.pre_visit_extensions(extensions),
-            ListVisit::Extension(extension) => self.visit_extension(extension),
-            ListVisit::AuthorityInformationAccess(access) => {
-                self.visit_extension_authority_information_access(access)
-            }
-            ListVisit::AuthorityKeyIdentifier(identifier) => self.visit_extension_aki(identifier),
-            ListVisit::IssuerAlternativeName(names) => {
-                self.visit_extension_issuer_alternative_name(names)
-            }
-            ListVisit::Timestamps(timestamps) => self.visit_extension_sct(timestamps),
-            ListVisit::CrlNumber(number) => self.visit_extension_crl_number(number),
-            ListVisit::InvalidityDate(date) => self.visit_extension_invalidity_date(date),
-            ListVisit::IssuingDistributionPoint(point) => {
-                self.visit_extension_issuing_distribution_point(point)
-            }
-            ListVisit::ReasonCode(reason) => self.visit_extension_reason_code(reason),
-            ListVisit::ParseError(extension, error) => {
-                self.visit_extension_parse_error(extension, error)
-            }
-            ListVisit::Unknown(extension) => self.visit_extension_unknown(extension),
-            ListVisit::PostExtensions(extensions) => self.post_visit_extensions(extensions),
+            ListVisit::Extensions(visit) => visit_extensions(self, visit),
         }
+    }
+}
+
+// A visit of the extensions of a list; of a value that has no place in one there is none.
+#[tactic(auto, unfolding(crate::specs::ExtensionVisits::event_of))]
+fn visit_extensions<V: CertificateRevocationListVisitor>(
+    visitor: &mut V,
+    visit: ExtensionVisit<'_, '_>,
+) -> Result<(), X509Error>
+    ensures { StepsOrSkips V.step visitor.old (of_extensions (event_of visit.entry)) result visitor.new }
+{
+    match visit {
+        ExtensionVisit::PreExtensions(extensions) => visitor.pre_visit_extensions(extensions),
+        ExtensionVisit::Extension(extension) => visitor.visit_extension(extension),
+        ExtensionVisit::AuthorityInformationAccess(access) => {
+            visitor.visit_extension_authority_information_access(access)
+        }
+        ExtensionVisit::AuthorityKeyIdentifier(identifier) => visitor.visit_extension_aki(
+            identifier,
+        ),
+        ExtensionVisit::IssuerAlternativeName(names) => {
+            visitor.visit_extension_issuer_alternative_name(names)
+        }
+        ExtensionVisit::Timestamps(timestamps) => visitor.visit_extension_sct(timestamps),
+        ExtensionVisit::CrlNumber(number) => visitor.visit_extension_crl_number(number),
+        ExtensionVisit::InvalidityDate(date) => visitor.visit_extension_invalidity_date(date),
+        ExtensionVisit::IssuingDistributionPoint(point) => {
+            visitor.visit_extension_issuing_distribution_point(point)
+        }
+        ExtensionVisit::ReasonCode(reason) => visitor.visit_extension_reason_code(reason),
+        ExtensionVisit::ParseError(extension, error) => {
+            visitor.visit_extension_parse_error(extension, error)
+        }
+        ExtensionVisit::Unknown(extension) => visitor.visit_extension_unknown(extension),
+        ExtensionVisit::PostExtensions(extensions) => visitor.post_visit_extensions(extensions),
+        _ => Ok(()),
     }
 }

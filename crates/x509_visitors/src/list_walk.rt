@@ -1,18 +1,19 @@
 //! The walks.
 
-ghost use Rattle.std.specs.Prelude.{◌≡◌, [], ◌∷◌, map};
-ghost use Rattle.std.specs.List.{flat_map};
+ghost use Rattle.std.specs.Prelude.{[], ◌∷◌, map};
 ghost use Rattle.x509_extensions.specs.Extension.{extension_of};
 ghost use Rattle.x509_lists.specs.CertificateList.{list_of};
 ghost use Rattle.x509_lists.specs.RevokedCertificate.{revoked_of};
 ghost use Rattle.x509_lists.specs.TbsCertList.{tbs_list_of};
 ghost use Rattle.x509_validators.specs.Visits.{Walks};
-ghost use Rattle.x509_visitors.specs.ListEvents.{revoked_certificate, value_event, extension_events, extensions_events, revoked_events, field_events};
+ghost use Rattle.x509_visitors.specs.ListEvents.{of_extensions, revoked_certificate, revoked_events, field_events};
 ghost use Rattle.x509_visitors.specs.ListEvents.{signature_events};
 ghost use Rattle.x509_visitors.specs.ListVisits.{event_of};
+ghost use Rattle.x509_visitors.specs.ExtensionEvents.{extensions_events, in_list};
 
-use crate::list_visit::{ListVisit, ListVisits};
-use x509_extensions::{ParsedExtension, X509Extension};
+use crate::extension_walk::walk_extensions;
+use crate::list_visit::{InList, ListVisit, ListVisits};
+use x509_extensions::X509Extension;
 use x509_fields::X509Error;
 use x509_lists::{CertificateRevocationList, RevokedCertificate, TbsCertList};
 
@@ -59,7 +60,7 @@ impl WalkRevocationList for TbsCertList<'_> {
     fn walk<V: ListVisits>(&self, visitor: &mut V) -> Result<(), X509Error> {
         walk_fields(self, visitor)?;
         walk_revoked(self.revoked_certificates.as_slice(), visitor)?;
-        walk_extensions(self.extensions(), visitor)
+        walk_own_extensions(self.extensions(), visitor)
     }
 }
 
@@ -124,66 +125,12 @@ fn walk_signature<V: ListVisits>(
     visit_one(ListVisit::SignatureValue(&list.signature_value), visitor)
 }
 
-// The extensions together, each of them, and all of them once more.
-#[tactic(auto, using(x509_validators::proofs::Walking::walking), unfolding(crate::specs::ListEvents::extensions_events, crate::specs::ListVisits::event_of))]
-fn walk_extensions<V: ListVisits>(
+// The extensions.
+fn walk_own_extensions<V: ListVisits>(
     extensions: &[X509Extension<'_>],
     visitor: &mut V,
 ) -> Result<(), X509Error>
-    ensures { Walks V.visit_step visitor.old (extensions_events (map extension_of extensions.now)) result visitor.new }
+    ensures { Walks V.visit_step visitor.old (map of_extensions (extensions_events in_list (map extension_of extensions.now))) result visitor.new }
 {
-    visit_one(ListVisit::PreExtensions(extensions), visitor)?;
-    walk_each(extensions, visitor)?;
-    visit_one(ListVisit::PostExtensions(extensions), visitor)
-}
-
-// Each extension, in order.
-#[tactic(auto, using(x509_validators::proofs::Walking::walking))]
-fn walk_each<V: ListVisits>(
-    extensions: &[X509Extension<'_>],
-    visitor: &mut V,
-) -> Result<(), X509Error>
-    ensures { Walks V.visit_step visitor.old (flat_map extension_events (map extension_of extensions.now)) result visitor.new }
-{
-    for extension in extensions {
-        walk_extension(extension, visitor)?;
-    }
-    Ok(())
-}
-
-// An extension, and then what its value says.
-#[tactic(auto, using(x509_validators::proofs::Walking::walking), unfolding(crate::specs::ListEvents::extension_events, crate::specs::ListVisits::event_of))]
-fn walk_extension<V: ListVisits>(
-    extension: &X509Extension<'_>,
-    visitor: &mut V,
-) -> Result<(), X509Error>
-    ensures { Walks V.visit_step visitor.old (extension_events (extension_of extension.now)) result visitor.new }
-{
-    visit_one(ListVisit::Extension(extension), visitor)?;
-    visit_one(value_visit(extension), visitor)
-}
-
-// The visit of what the extension's value says.
-#[tactic(auto, unfolding(crate::specs::ListEvents::value_event, crate::specs::ListVisits::event_of))]
-fn value_visit<'v, 'a>(extension: &'v X509Extension<'a>) -> ListVisit<'v, 'a>
-    ensures { event_of result ≡ value_event (extension_of extension.now) (extension_of extension.now).parsed }
-{
-    match extension.parsed_extension() {
-        ParsedExtension::AuthorityInfoAccess(access) => {
-            ListVisit::AuthorityInformationAccess(access)
-        }
-        ParsedExtension::AuthorityKeyIdentifier(identifier) => {
-            ListVisit::AuthorityKeyIdentifier(identifier)
-        }
-        ParsedExtension::IssuerAlternativeName(names) => ListVisit::IssuerAlternativeName(names),
-        ParsedExtension::SCT(timestamps) => ListVisit::Timestamps(timestamps.as_slice()),
-        ParsedExtension::CRLNumber(number) => ListVisit::CrlNumber(number),
-        ParsedExtension::InvalidityDate(date) => ListVisit::InvalidityDate(date),
-        ParsedExtension::IssuingDistributionPoint(point) => {
-            ListVisit::IssuingDistributionPoint(point)
-        }
-        ParsedExtension::ReasonCode(reason) => ListVisit::ReasonCode(reason),
-        ParsedExtension::ParseError { error } => ListVisit::ParseError(extension, error),
-        _ => ListVisit::Unknown(extension),
-    }
+    walk_extensions::<InList, V>(extensions, visitor)
 }
