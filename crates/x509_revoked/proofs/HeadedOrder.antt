@@ -2,7 +2,7 @@
 use Rattle.std.proofs.Common.{◌≡◌, ℕ, ◌+◌, ◌<◌, ◌≤◌, List, [], ◌∷◌, ◌++◌, length, get_or, map, true}
 use Rattle.std.proofs.Common.{false, is_lt, nat_cmp, Ordering, Less, Equal, Greater, refl, sym, ap, subst, ◌∙◌, arith}
 use Rattle.std.specs.List.Sorted.{IsPermutation, IsSorted}
-use Rattle.std.specs.Ordering.{ordering_then, is_ne}
+use Rattle.std.specs.Ordering.{ordering_then}
 use Rattle.std.proofs.lemmas.List.{get_or-map, length-map, map-append}
 use Rattle.std.proofs.lemmas.List.Sorted.{All-permutation, IsPermutation-map}
 use Rattle.x509_revoked.specs.Beginnings.{beginnings}
@@ -13,7 +13,7 @@ use Rattle.x509_revoked.specs.SerialOrder.{by_serial, number_at_offset}
 use Rattle.x509_revoked.specs.SerialHead.{serial_head}
 use Rattle.x509_revoked.specs.declared.entry.Entry.{Entry}
 use Rattle.x509_revoked.specs.declared.headed_entry.HeadedEntry.{HeadedEntry}
-use Rattle.x509_revoked.proofs.Heads.{heads_first, first_differs}
+use Rattle.x509_revoked.proofs.Heads.{heads_first, less_by_heads, greater_by_heads}
 use Rattle.x509_revoked.proofs.Placed.{index_made}
 use Rattle.x509_revoked.proofs.Ranked.{compared}
 
@@ -94,13 +94,18 @@ pub position_there : (octets : List ℕ) (entries : List HeadedEntry) (k : ℕ) 
 position_there octets entries k e within = ap (λ (x : Indexed). x.position) (there octets entries k e (record { number = 0; position = 0 }) within)
 
 -- compared with a number whose head is known: by the heads where they differ
-pub told_by_heads : (octets : List ℕ) (entries : List HeadedEntry) (k n h : ℕ) (e : HeadedEntry) (o : Ordering) → AreHeaded octets entries
-    → k < length entries → h ≡ serial_head n → o ≡ nat_cmp (get_or entries k e).head h → is_ne o ≡ true
-    → o ≡ nat_cmp (number_at (map (placed octets) (offsets_of entries)) k) n
-told_by_heads octets entries k n h e o headed within head is differ =
+pub less_there : (octets : List ℕ) (entries : List HeadedEntry) (k n h : ℕ) (e : HeadedEntry) → AreHeaded octets entries → k < length entries
+    → h ≡ serial_head n → (get_or entries k e).head < h → Less ≡ nat_cmp (number_at (map (placed octets) (offsets_of entries)) k) n
+less_there octets entries k n h e headed within head lt =
     let entry = get_or entries k e in
-    let m = number_at_offset octets entry.offset in
-    first_differs o (nat_cmp m n) differ ∙ ap (λ x. ordering_then x (nat_cmp m n)) is ∙ heads_first m n entry.head h (headed k e within) head
+    less_by_heads (number_at_offset octets entry.offset) n entry.head h (headed k e within) head lt
+    ∙ ap (λ x. nat_cmp x n) (sym (number_there octets entries k e within))
+
+pub greater_there : (octets : List ℕ) (entries : List HeadedEntry) (k n h : ℕ) (e : HeadedEntry) → AreHeaded octets entries → k < length entries
+    → h ≡ serial_head n → h < (get_or entries k e).head → Greater ≡ nat_cmp (number_at (map (placed octets) (offsets_of entries)) k) n
+greater_there octets entries k n h e headed within head lt =
+    let entry = get_or entries k e in
+    greater_by_heads (number_at_offset octets entry.offset) n entry.head h (headed k e within) head lt
     ∙ ap (λ x. nat_cmp x n) (sym (number_there octets entries k e within))
 
 -- ---- entries of a kept list, by head, serial and position

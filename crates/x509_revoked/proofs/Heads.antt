@@ -102,6 +102,20 @@ pub heads_first : (m n h k : ℕ) → h ≡ serial_head m → k ≡ serial_head 
 heads_first m n h k mine yours =
     order_then h k m n (λ le. omega (arith, mine, yours, heads_follow m n le)) (λ le. omega (arith, mine, yours, heads_follow n m le))
 
+-- a lesser head is that of a lesser number
+pub less_by_heads : (m n h k : ℕ) → h ≡ serial_head m → k ≡ serial_head n → h < k → Less ≡ nat_cmp m n
+less_by_heads m n h k mine yours lt = elim (cases_lt m n) [
+  | inl less ↦ grind (arith, nat_tests, less)
+  | inr not ↦ absurd (omega (arith, mine, yours, lt, heads_follow n m (omega (arith, not))))
+]
+
+-- and a greater one that of a greater number
+pub greater_by_heads : (m n h k : ℕ) → h ≡ serial_head m → k ≡ serial_head n → k < h → Greater ≡ nat_cmp m n
+greater_by_heads m n h k mine yours lt = elim (cases_lt n m) [
+  | inl more ↦ grind (arith, nat_tests, more)
+  | inr not ↦ absurd (omega (arith, mine, yours, lt, heads_follow m n (omega (arith, not))))
+]
+
 pub first_differs : (a b : Ordering) → is_ne a ≡ true → a ≡ ordering_then a b
 first_differs Less b e = refl
 first_differs Equal b e = absurd (cc)

@@ -1,6 +1,6 @@
 //! The index of a list whose entries stay in their octets.
 
-ghost use Rattle.std.specs.Prelude.{◌≡◌, ◌==◌, ◌<◌, ◌≤◌, ◌+◌, ◌⊎◌, ◌^◌, length, List, MatchResult};
+ghost use Rattle.std.specs.Prelude.{◌≡◌, ◌==◌, ◌<◌, ◌≤◌, ◌+◌, ◌⊎◌, ◌^◌, length, MatchResult};
 ghost use Rattle.x509_der.specs.Unsigned.{unsigned_number};
 ghost use Rattle.x509_fields.specs.declared.error.X509Error.TheVariants.{OutOfMemory};
 ghost use Rattle.x509_lists.specs.EntriesIn.{HoldsEntries};
@@ -179,9 +179,12 @@ impl Ordered for EntriesIndex<'_> {
     fn compare(&self, entry: usize, serial: &HeadedSerial<'_>, compared: &mut u32) -> Ordering {
         *compared += 1;
         let there = self.entries[entry];
-        let heads = there.head.cmp(&serial.head());
-        if heads.is_ne() {
-            return heads;
+        let head = serial.head();
+        if there.head < head {
+            return Ordering::Less;
+        }
+        if there.head > head {
+            return Ordering::Greater;
         }
         serial_from(self.octets, there.offset).cmp(serial.serial())
     }

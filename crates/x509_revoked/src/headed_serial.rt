@@ -65,9 +65,11 @@ impl<'a> HeadedSerial<'a> {
     pub fn compare(&self, other: &HeadedSerial<'_>) -> Ordering
         ensures { result ≡ nat_cmp (number_of self.now) (number_of other.now) }
     {
-        let heads = self.head.cmp(&other.head);
-        if heads.is_ne() {
-            return heads;
+        if self.head < other.head {
+            return Ordering::Less;
+        }
+        if self.head > other.head {
+            return Ordering::Greater;
         }
         self.serial.cmp(&other.serial)
     }
