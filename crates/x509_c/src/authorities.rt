@@ -1,12 +1,11 @@
 //! Values of extensions with keys and names of others in them.
 
-ghost use Rattle.std.specs.Prelude.{◌≡◌, [], length, map};
+ghost use Rattle.std.specs.Prelude.{◌≡◌, [], map};
 ghost use Rattle.x509_general_names.specs.AuthorityKeyIdentifier.{authority_key_identifier, authority_key_identifier_of};
 ghost use Rattle.x509_general_names.specs.GeneralName.{general_name_of};
 ghost use Rattle.x509_general_names.specs.InformationAccess.{Access, access_of, information_access};
-ghost use Rattle.x509_general_names.specs.KeyIdentifier.{key_identifier, key_identifier_of};
+ghost use Rattle.x509_general_names.specs.KeyIdentifier.{key_identifier};
 ghost use Rattle.x509_c.specs.Authorities.{IsAccessRow, IsAuthorityKeyRow, ShowsAccesses, ShowsAuthorityKey};
-ghost use Rattle.x509_c.specs.GeneralNames.{IsGeneralNameRow};
 ghost use Rattle.x509_c.specs.Options.{there_or};
 ghost use Rattle.x509_c.specs.Tells.{Tells, Done};
 ghost use Rattle.x509_c.specs.Values.{AreOctets};

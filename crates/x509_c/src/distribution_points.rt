@@ -1,12 +1,11 @@
 //! Where lists of revoked certificates are found.
 
-ghost use Rattle.std.specs.Prelude.{◌≡◌, [], length, map};
+ghost use Rattle.std.specs.Prelude.{◌≡◌, [], map};
 ghost use Rattle.x509_general_names.specs.DistributionPoints.{Point, crl_distribution_points, point_of};
 ghost use Rattle.x509_general_names.specs.GeneralName.{GeneralNameValue, general_name_of};
-ghost use Rattle.x509_c.specs.DistributionPoints.{FindsPoint, IsPointNameRow, IsPointRow, ShowsPoint, full_names, issuers_of_points, name_kind, names_held};
+ghost use Rattle.x509_c.specs.DistributionPoints.{FindsPoint, IsPointNameRow, IsPointRow, full_names, issuers_of_points, name_kind, names_held};
 ghost use Rattle.x509_c.specs.DistributionPoints.{names_of_points};
-ghost use Rattle.x509_c.specs.GeneralNames.{IsGeneralNameRow};
-ghost use Rattle.x509_c.specs.Options.{is_there, there_or};
+ghost use Rattle.x509_c.specs.Options.{there_or};
 ghost use Rattle.x509_c.specs.Rows.{CountsAndShows};
 ghost use Rattle.x509_c.specs.Tells.{Tells, Done};
 

@@ -1,6 +1,5 @@
 //! Extensions, each as it stands.
 
-ghost use Rattle.std.specs.Prelude.{◌≡◌};
 ghost use Rattle.x509_extensions.specs.Extension.{Extension, extension_of};
 ghost use Rattle.x509_c.specs.Extensions.{IsExtensionRow};
 

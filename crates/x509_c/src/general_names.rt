@@ -1,6 +1,6 @@
 //! General names, one by one.
 
-ghost use Rattle.std.specs.Prelude.{◌≡◌, ℕ, length, map};
+ghost use Rattle.std.specs.Prelude.{◌≡◌};
 ghost use Rattle.x509_general_names.specs.GeneralName.{GeneralNameValue, general_name_of};
 ghost use Rattle.x509_general_names.specs.AlternativeNames.{general_names};
 ghost use Rattle.x509_c.specs.GeneralNames.{IsGeneralNameRow, ShowsNames};

@@ -1,6 +1,6 @@
 //! What lists of revoked certificates cover.
 
-ghost use Rattle.std.specs.Prelude.{◌≡◌, [], length, map};
+ghost use Rattle.std.specs.Prelude.{◌≡◌, [], map};
 ghost use Rattle.x509_general_names.specs.GeneralName.{general_name_of};
 ghost use Rattle.x509_general_names.specs.IssuingDistributionPoint.{issuing_distribution_point, issuing_point_of};
 ghost use Rattle.x509_c.specs.DistributionPoints.{full_names, name_kind};

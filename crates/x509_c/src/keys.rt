@@ -1,6 +1,6 @@
 //! Keys.
 
-ghost use Rattle.std.specs.Prelude.{◌≡◌, []};
+ghost use Rattle.std.specs.Prelude.{◌≡◌};
 ghost use Rattle.x509_keys.specs.RsaPublicKey.{rsa_public_key, rsa_key_of};
 ghost use Rattle.x509_fields.specs.Algorithm.{algorithm_of};
 ghost use Rattle.x509_keys.specs.KeyInfo.{key_info, key_info_of};

@@ -1,6 +1,6 @@
 //! Lists of revoked certificates.
 
-ghost use Rattle.std.specs.Prelude.{◌≡◌, true, length, map};
+ghost use Rattle.std.specs.Prelude.{◌≡◌, true};
 ghost use Rattle.std.specs.Int.Digits.{number_from_digits};
 ghost use Rattle.x509_der.specs.Promises.{ReadsWhere};
 ghost use Rattle.x509_fields.specs.Errors.{is_x509_memory};

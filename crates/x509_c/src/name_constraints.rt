@@ -1,11 +1,11 @@
 //! Name constraints.
 
-ghost use Rattle.std.specs.Prelude.{◌≡◌, [], length, map};
+ghost use Rattle.std.specs.Prelude.{◌≡◌, [], map};
 ghost use Rattle.x509_general_names.specs.GeneralName.{GeneralNameValue};
 ghost use Rattle.x509_general_names.specs.NameConstraints.{constraints_of, name_constraints, subtree_of};
 ghost use Rattle.x509_c.specs.GeneralNames.{IsGeneralNameRow};
 ghost use Rattle.x509_c.specs.NameConstraints.{IsNameConstraintsRow, ShowsNameConstraints};
-ghost use Rattle.x509_c.specs.Options.{is_there, there_or};
+ghost use Rattle.x509_c.specs.Options.{there_or};
 ghost use Rattle.x509_c.specs.Tells.{Tells, Done};
 
 use crate::general_names::GeneralNameRow;

@@ -3,7 +3,7 @@
 ghost use Rattle.std.specs.Prelude.{◌≡◌, codes};
 ghost use Rattle.x509_der.specs.Hex.{hex_text};
 ghost use Rattle.x509_der.specs.Oid.{oid_text};
-ghost use Rattle.x509_names.specs.Names.{Attribute, attribute_of, name, name_of};
+ghost use Rattle.x509_names.specs.Names.{Attribute, attribute_of, name};
 ghost use Rattle.x509_names.specs.NameTexts.{shown_name};
 ghost use Rattle.x509_c.specs.Names.{IsAttributeRow};
 ghost use Rattle.x509_c.specs.Rows.{CountsAndShows, numbered_from};

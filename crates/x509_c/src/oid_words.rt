@@ -2,7 +2,6 @@
 
 ghost use Rattle.std.specs.Prelude.{◌≡◌, Some};
 ghost use Rattle.x509_names.specs.Full.{known_in_full};
-ghost use Rattle.x509_names.specs.Registry.{entry_of, registered};
 ghost use Rattle.x509_c.specs.OidWords.{TellsEntry};
 
 use crate::status::{NOT_FOUND, OK, OUT_OF_MEMORY};

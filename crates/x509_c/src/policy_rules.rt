@@ -1,6 +1,6 @@
 //! What is asked of the policies of a path.
 
-ghost use Rattle.std.specs.Prelude.{◌≡◌, length, map};
+ghost use Rattle.std.specs.Prelude.{◌≡◌};
 ghost use Rattle.x509_values.specs.InhibitAnyPolicy.{inhibit_any_policy};
 ghost use Rattle.x509_values.specs.PolicyConstraints.{policy_constraints, policy_constraints_of};
 ghost use Rattle.x509_values.specs.PolicyMapping.{PolicyMappingValue, policy_mapping_of, policy_mappings};

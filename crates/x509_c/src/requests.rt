@@ -1,6 +1,6 @@
 //! Certification requests.
 
-ghost use Rattle.std.specs.Prelude.{◌≡◌, true, length, map};
+ghost use Rattle.std.specs.Prelude.{◌≡◌, true};
 ghost use Rattle.x509_der.specs.Promises.{ReadsWhere};
 ghost use Rattle.x509_fields.specs.Errors.{is_x509_memory};
 ghost use Rattle.x509_requests.specs.CriAttribute.{Attribute, attribute_of};

@@ -1,6 +1,6 @@
 //! Timestamps that logs signed.
 
-ghost use Rattle.std.specs.Prelude.{◌≡◌, length, map};
+ghost use Rattle.std.specs.Prelude.{◌≡◌};
 ghost use Rattle.x509_fields.specs.Fields.{lifted};
 ghost use Rattle.x509_values.specs.Timestamp.{TimestampValue, timestamp_of};
 ghost use Rattle.x509_values.specs.TimestampList.{timestamps};

@@ -1,5 +1,5 @@
 -- The part of a certificate that is signed (RFC 5280, 4.1.2).
-use Rattle.std.specs.Prelude.{◌≡◌, ◌++◌, ℕ, List, Bool, false, Option, unwrap_or, ◌+◌, map}
+use Rattle.std.specs.Prelude.{◌≡◌, ◌++◌, ℕ, List, Bool, Option, unwrap_or, ◌+◌, map}
 use Rattle.x509_der.specs.declared.error.Err.{Err as Refusal}
 use Rattle.x509_der.specs.declared.error.Err.TheVariants.{Error}
 use Rattle.x509_der.specs.Digits.{without_leading_zeros}

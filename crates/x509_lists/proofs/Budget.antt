@@ -1,5 +1,5 @@
 -- The tries of certificates that can't be read, and of the wrapper that is looked for at their place.
-use Rattle.std.proofs.Common.{◌≡◌, ◌≤◌, ◌+◌, ◌-◌, ◌*◌, ◌==◌, ◌&&◌, ◌⊎◌, ℕ, List, Bool, true, false, Option, Some, None, Result, Ok, Err, length, refl, sym, ap, subst, ◌∙◌, inl, inr, arith, if◌then◌else◌, nat_lt}
+use Rattle.std.proofs.Common.{◌≡◌, ◌≤◌, ◌+◌, ◌-◌, ◌*◌, ◌==◌, ◌&&◌, ◌⊎◌, ℕ, List, Bool, true, false, Option, Some, None, Result, Ok, Err, length, refl, sym, ap, subst, inl, inr, arith, if◌then◌else◌, nat_lt}
 use Rattle.std.specs.Prelude.{IsErr}
 use Rattle.x509_der.specs.declared.header.Header.{Header}
 use Rattle.x509_der.specs.declared.error.Err.{Err as Refusal}

@@ -2,7 +2,7 @@
 
 ghost use Rattle.std.specs.Prelude.{◌≡◌, [], length, true, IfOk};
 ghost use Rattle.x509_der.specs.Place.{bytes_in, outside_in};
-ghost use Rattle.x509_der.specs.Plan.{run, to_end, members};
+ghost use Rattle.x509_der.specs.Plan.{run, to_end};
 ghost use Rattle.x509_der.specs.Primitives.{is_constructed};
 ghost use Rattle.x509_der.specs.Promises.{Answers, ReadsRun, ReadsList, TriesBounded, ended_early};
 ghost use Rattle.x509_der.specs.Reading.{strict};

@@ -1,6 +1,6 @@
 //! The entry of an issuer's serial on an indirect list.
 
-ghost use Rattle.std.specs.Prelude.{◌≡◌, ◌⊎◌, Some, None, Bool, List, map, MatchResult};
+ghost use Rattle.std.specs.Prelude.{◌≡◌, ◌⊎◌, Some, None, map, MatchResult};
 ghost use Rattle.std.specs.List.{list_any};
 ghost use Rattle.x509_der.specs.Unsigned.{unsigned_number};
 ghost use Rattle.x509_extensions.specs.Extension.{extension_of};

@@ -1,6 +1,6 @@
 //! Whether the values of extensions could be read.
 
-ghost use Rattle.std.specs.Prelude.{◌≡◌, map, not};
+ghost use Rattle.std.specs.Prelude.{map, not};
 ghost use Rattle.std.specs.List.{flat_map, list_all};
 ghost use Rattle.std.specs.Option.{is_some};
 ghost use Rattle.x509_der.specs.Oid.{oid_bytes};

@@ -1,6 +1,5 @@
 //! The structure of certificates.
 
-ghost use Rattle.std.specs.Prelude.{◌≡◌};
 ghost use Rattle.x509_certs.specs.TbsCertificate.{tbs_of};
 ghost use Rattle.x509_validators.specs.Message.{Logs};
 ghost use Rattle.x509_validators.specs.Serial.{serial_messages, is_there};
