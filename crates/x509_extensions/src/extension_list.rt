@@ -131,7 +131,9 @@ impl X509ExtensionParser {
         Ok((list, closes & plain))
     }
 
-    /// Extensions up to the end of the bytes. Room is asked for first: for one in each 32 bytes, and for eight at most.
+    /// Extensions up to the end of the bytes.
+    #[inline(always)]
+    #[tactic(auto, using(x509_der::proofs::RunLoop::ending, x509_der::proofs::Marked::and_true))]
     pub(crate) fn read_to_end<'a, L: Outside>(
         &self,
         alloc: Global,
@@ -148,10 +150,37 @@ impl X509ExtensionParser {
         ensures shallow { self.now.deep_parse_extensions ≡ false
             → IfOk result (λ x. tries.new + 8 * value_bytes (map extension_of x.0) ≤ tries.old + 8 * length (bytes_in contents.now)) }
     {
-        let i = contents.bytes();
+        let (rest, list, plain) = match self.read_members(alloc, tries, contents.bytes()) {
+            Ok(read) => read,
+            Err(why) => return Err(contents.refuse_at(contents.bytes(), why)),
+        };
+        if !rest.is_empty() {
+            let why = Err::Error(X509Error::NomError(ErrorKind::Eof));
+            return Err(contents.refuse_at(rest, why));
+        }
+        Ok((list, plain))
+    }
+
+    // As many extensions as stand at the front, and what stands behind them. Room is asked for first: for one in each 32 bytes, and for
+    // eight at most. It is told of no octets outside, so a program has this loop once, whoever asks for the place of a refusal.
+    fn read_members<'a>(
+        &self,
+        alloc: Global,
+        tries: &mut Tries,
+        i: &'a [u8],
+    ) -> Result<(&'a [u8], Sequence<X509Extension<'a>>, bool), Err<X509Error>>
+        ensures reads { Answers is_x509_memory true (λ x. (x.0.now, map extension_of x.1)) result
+            ((run (extension self.now.deep_parse_extensions)).read i.now) }
+        ensures marks { IfOk result (λ x. x.2 ≡ marks_of_members (extension self.now.deep_parse_extensions) i.now) }
+        ensures grows { tries.old ≤ tries.new }
+        ensures count { tries.new ≤ tries.old + 8 * length i.now }
+        ensures least { IfOk result (λ x. AddsAtLeast (sum_by extension_heads (map extension_of x.1)) tries.old tries.new) }
+        ensures shallow { self.now.deep_parse_extensions ≡ false
+            → IfOk result (λ x. tries.new + 8 * value_bytes (map extension_of x.1) ≤ tries.old + 8 * length i.now) }
+    {
         let mut list = match Vec::with_capacity(alloc, i.len().div_ceil(32).min(8)) {
             Ok(room) => Sequence::from_vec(room),
-            Err(_) => return Err(contents.refuse_at(i, Err::out_of_memory())),
+            Err(_) => return Err(Err::out_of_memory()),
         };
         let mut rest = i;
         let mut plain = true;
@@ -164,14 +193,13 @@ impl X509ExtensionParser {
                 }
                 Err(e) => {
                     if e.is_out_of_memory() {
-                        return Err(contents.refuse_at(rest, e));
+                        return Err(e);
                     }
-                    let why = Err::Error(X509Error::NomError(ErrorKind::Eof));
-                    return Err(contents.refuse_at(rest, why));
+                    return Ok((rest, list, plain));
                 }
             }
         }
-        Ok((list, plain))
+        Ok((rest, list, plain))
     }
 }
 

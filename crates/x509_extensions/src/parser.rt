@@ -73,6 +73,7 @@ impl X509ExtensionParser {
             (λ plain. Adds self.now.deep_parse_extensions (at place.now) (map extension_of list.old) (map extension_of list.new) plain tries.old tries.new) }
         ensures refused { IfErr result
             (λ e. cond (is_excused is_x509_memory true e) ⊤ ((extension self.now.deep_parse_extensions).read (at place.now) ≡ Refusing e)) }
+        ensures kept { IfErr result (λ e. cond (is_excused is_x509_memory true e) ⊤ (list.new ≡ list.old)) }
         ensures grows { tries.old ≤ tries.new }
         ensures few { tries.new ≤ tries.old + (8 * length (at place.now) - 8) }
     {
