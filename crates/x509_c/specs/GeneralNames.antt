@@ -1,7 +1,6 @@
 -- General names as C sees them.
-use Rattle.std.specs.Prelude.{◌≡◌, ℕ, List, [], length}
+use Rattle.std.specs.Prelude.{◌≡◌, ℕ, List, []}
 use Rattle.x509_general_names.specs.GeneralName.{GeneralNameValue, OtherName, RFC822Name, DNSName, X400Address, DirectoryName, EDIPartyName, URI, IPAddress, RegisteredID, Invalid}
-use Rattle.x509_c.specs.Rows.{RowsShow}
 use Rattle.x509_c.specs.declared.general_names.GeneralNameRow.{GeneralNameRow}
 
 -- the number of the name's tag (RFC 5280, 4.2.1.6)
@@ -45,8 +44,3 @@ pub record IsGeneralNameRow (row : GeneralNameRow) (name : GeneralNameValue) : T
   pub readable : row.readable ≡ name_readable name
   pub id : row.id.now ≡ name_id name
   pub value : row.value.now ≡ name_octets name
-
--- all names are counted, and shown as far as there are rows
-pub record ShowsNames (written : List GeneralNameRow) (told : ℕ) (names : List GeneralNameValue) : Type 0 where
-  pub count : told ≡ length names
-  pub rows : RowsShow IsGeneralNameRow written names

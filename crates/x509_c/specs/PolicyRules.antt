@@ -1,9 +1,8 @@
 -- What is asked of the policies of a path, as C sees it.
-use Rattle.std.specs.Prelude.{◌≡◌, ℕ, List, length}
+use Rattle.std.specs.Prelude.{◌≡◌}
 use Rattle.x509_values.specs.PolicyConstraints.{PolicyConstraintsValue}
 use Rattle.x509_values.specs.PolicyMapping.{PolicyMappingValue}
 use Rattle.x509_c.specs.Options.{is_there, there_or}
-use Rattle.x509_c.specs.Rows.{RowsShow}
 use Rattle.x509_c.specs.declared.policy_rules.PolicyConstraintsRow.{PolicyConstraintsRow}
 use Rattle.x509_c.specs.declared.policy_rules.PolicyMappingRow.{PolicyMappingRow}
 
@@ -16,8 +15,3 @@ pub record IsPolicyConstraintsRow (row : PolicyConstraintsRow) (constraints : Po
 pub record IsPolicyMappingRow (row : PolicyMappingRow) (mapping : PolicyMappingValue) : Type 0 where
   pub issuer_domain_policy : row.issuer_domain_policy.now ≡ mapping.issuer_domain_policy
   pub subject_domain_policy : row.subject_domain_policy.now ≡ mapping.subject_domain_policy
-
--- all mappings are counted, and shown as far as there are rows
-pub record ShowsPolicyMappings (written : List PolicyMappingRow) (told : ℕ) (mappings : List PolicyMappingValue) : Type 0 where
-  pub count : told ≡ length mappings
-  pub rows : RowsShow IsPolicyMappingRow written mappings

@@ -44,11 +44,6 @@ pub record IsPolicyRow (row : PolicyRow) (policy : PolicyValue) : Type 0 where
   pub oid : row.oid.now ≡ policy.policy_id
   pub qualifier_count : row.qualifier_count ≡ length (qualifiers policy)
 
--- all policies are counted, and shown as far as there are rows
-pub record ShowsPolicies (written : List PolicyRow) (told : ℕ) (policies : List PolicyValue) : Type 0 where
-  pub count : told ≡ length policies
-  pub rows : RowsShow IsPolicyRow written policies
-
 pub record IsQualifierRow (row : QualifierRow) (qualifier : PolicyQualifierValue) : Type 0 where
   pub oid : row.oid.now ≡ qualifier.policy_qualifier_id
   pub value : row.value.now ≡ qualifier.qualifier

@@ -3,7 +3,8 @@
 ghost use Rattle.std.specs.Prelude.{◌≡◌};
 ghost use Rattle.x509_general_names.specs.GeneralName.{GeneralNameValue, general_name_of};
 ghost use Rattle.x509_general_names.specs.AlternativeNames.{general_names};
-ghost use Rattle.x509_c.specs.GeneralNames.{IsGeneralNameRow, ShowsNames};
+ghost use Rattle.x509_c.specs.GeneralNames.{IsGeneralNameRow};
+ghost use Rattle.x509_c.specs.Rows.{CountsAndShows};
 ghost use Rattle.x509_c.specs.Tells.{Tells, Done};
 
 use crate::row_writer::{HasRow, put_rows};
@@ -68,7 +69,7 @@ pub extern "C" fn rtv_read_general_names<'a>(
     at: &mut usize,
 ) -> u32
     ensures { Tells general_names value.now
-        (λ read _. Done (ShowsNames names.new count.new read))
+        (λ read _. Done (CountsAndShows IsGeneralNameRow names.new count.new read))
         ((names.new ≡ names.old) × (count.new ≡ count.old))
         at.old at.new result }
 {

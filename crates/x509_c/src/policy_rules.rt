@@ -4,7 +4,8 @@ ghost use Rattle.std.specs.Prelude.{◌≡◌};
 ghost use Rattle.x509_values.specs.InhibitAnyPolicy.{inhibit_any_policy};
 ghost use Rattle.x509_values.specs.PolicyConstraints.{policy_constraints, policy_constraints_of};
 ghost use Rattle.x509_values.specs.PolicyMapping.{PolicyMappingValue, policy_mapping_of, policy_mappings};
-ghost use Rattle.x509_c.specs.PolicyRules.{IsPolicyConstraintsRow, IsPolicyMappingRow, ShowsPolicyMappings};
+ghost use Rattle.x509_c.specs.PolicyRules.{IsPolicyConstraintsRow, IsPolicyMappingRow};
+ghost use Rattle.x509_c.specs.Rows.{CountsAndShows};
 ghost use Rattle.x509_c.specs.Tells.{Tells, Done};
 
 use crate::options::{is_some, or_zero};
@@ -121,7 +122,7 @@ pub extern "C" fn rtv_read_policy_mappings<'a>(
     at: &mut usize,
 ) -> u32
     ensures { Tells policy_mappings value.now
-        (λ read _. Done (ShowsPolicyMappings rows.new count.new read))
+        (λ read _. Done (CountsAndShows IsPolicyMappingRow rows.new count.new read))
         ((rows.new ≡ rows.old) × (count.new ≡ count.old))
         at.old at.new result }
 {

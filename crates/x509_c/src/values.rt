@@ -7,7 +7,7 @@ ghost use Rattle.x509_values.specs.ExtendedKeyUsage.{extended_key_usage, usages_
 ghost use Rattle.x509_values.specs.KeyUsage.{key_usage};
 ghost use Rattle.x509_values.specs.Policies.{PolicyQualifierValue, PolicyValue, policies, policy_of, policy_qualifier_of};
 ghost use Rattle.x509_c.specs.Tells.{Tells, Done};
-ghost use Rattle.x509_c.specs.Values.{AreOctets, IsBasicConstraintsRow, IsPolicyRow, IsUsagesRow, ShowsPolicies, ShowsUsages, FindsQualifiers};
+ghost use Rattle.x509_c.specs.Values.{AreOctets, IsBasicConstraintsRow, IsPolicyRow, IsUsagesRow, ShowsUsages, FindsQualifiers};
 ghost use Rattle.x509_c.specs.Values.{IsPolicyQualifierRow, IsQualifierRow, policy_qualifiers, qualifiers};
 ghost use Rattle.x509_c.specs.Options.{there_or};
 ghost use Rattle.x509_c.specs.Rows.{CountsAndShows};
@@ -219,7 +219,7 @@ pub extern "C" fn rtv_read_policies<'a>(
     at: &mut usize,
 ) -> u32
     ensures { Tells policies value.now
-        (λ read _. Done (ShowsPolicies rows.new count.new read))
+        (λ read _. Done (CountsAndShows IsPolicyRow rows.new count.new read))
         ((rows.new ≡ rows.old) × (count.new ≡ count.old))
         at.old at.new result }
 {

@@ -3,17 +3,17 @@ use Rattle.std.proofs.Common.{List, length, map, ap, sym, subst, refl, true, ◌
 use Rattle.std.proofs.lemmas.List.{length-map}
 use Rattle.x509_values.specs.declared.policy_mapping.PolicyMapping.{PolicyMapping}
 use Rattle.x509_values.specs.PolicyMapping.{policy_mappings, policy_mappings_of, policy_mapping_of}
-use Rattle.x509_c.specs.PolicyRules.{IsPolicyMappingRow, ShowsPolicyMappings}
-use Rattle.x509_c.specs.Rows.{RowsShow}
+use Rattle.x509_c.specs.PolicyRules.{IsPolicyMappingRow}
+use Rattle.x509_c.specs.Rows.{CountsAndShows, RowsShow}
 use Rattle.x509_c.proofs.Telling.{tells_read, tells_refused}
 use Rattle.x509_c.proofs.policy_rules.rtv_read_policy_mappings.Goals as goal
 
 pub returns-in-Ok : goal.returns-in-Ok
 returns-in-Ok c =
     let slice = c.as_slice-read.ensures in
-    let shown : ShowsPolicyMappings c.put_rows.new.rows (length c.as_slice-read.result.now) (policy_mappings_of c.in-Ok.read) = record {
+    let shown : CountsAndShows IsPolicyMappingRow c.put_rows.new.rows (length c.as_slice-read.result.now) (policy_mappings_of c.in-Ok.read) = record {
       count = ap (λ (xs : List PolicyMapping). length xs) slice ∙ sym (length-map c.in-Ok.read.mappings policy_mapping_of);
-      rows = subst (λ (xs : List PolicyMapping). RowsShow IsPolicyMappingRow c.put_rows.new.rows (map policy_mapping_of xs)) slice c.put_rows.ensures;
+      shown = subst (λ (xs : List PolicyMapping). RowsShow IsPolicyMappingRow c.put_rows.new.rows (map policy_mapping_of xs)) slice c.put_rows.ensures;
     } in
     tells_read true _ policy_mappings c.args.value.now _ _ _ c.args.at.now c.in-Ok.ensures shown
 
