@@ -27,6 +27,10 @@ HoldsTwo input first second rest = (behind : List ℕ) × IsFront (certificate t
 abbrev pub IsValidAt : Validity → ASN1Time → Type 0
 IsValidAt validity time = (instant_of validity.not_before ≤ℤ instant_of time) × (instant_of time ≤ℤ instant_of validity.not_after)
 
+-- a certificate stands at the front of the input
+abbrev pub IsCertificate : List ℕ → Type 0
+IsCertificate input = (value : Certificate) × (rest : List ℕ) × IsFront (certificate true) input value rest
+
 -- the grammar of certificates refuses the input at this octet, for a reason with these words
 abbrev pub IsFault : List ℕ → ℕ → List ℕ → Type 0
 IsFault input at word = (why : Refusal X509Error) × (left : ℕ) × (certificate true).Refuses input why left × (at + left ≡ length input) × (word ≡ refusal_word x509_word why)

@@ -1,3 +1,5 @@
 pub mod Conclusions
 pub mod Linting
+pub mod Refusals
+pub mod Revocation
 pub mod Visiting

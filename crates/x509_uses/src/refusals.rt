@@ -1,9 +1,13 @@
 //! What to make of a refusal.
 
-ghost use Rattle.std.specs.Prelude.{IfSome, string_bytes};
-ghost use Rattle.x509_uses.specs.Conclusions.{IsFault, IsPathToFault};
+ghost use Rattle.std.specs.Prelude.{◌≡◌, ◌↔◌, IfOk, IsTrue, MatchOption, string_bytes};
+ghost use Rattle.x509_der.specs.declared.error.BerError.TheVariants.{InvalidTag};
+ghost use Rattle.x509_der.specs.declared.error.Err.TheVariants as refusals;
+ghost use Rattle.x509_fields.specs.declared.error.X509Error.TheVariants.{Der};
+ghost use Rattle.x509_uses.specs.Conclusions.{IsCertificate, IsFault, IsPathToFault};
+ghost use Rattle.x509_uses.specs.Refusals.{what_next};
 
-use std::alloc::Global;
+use std::alloc::{AllocError, Global};
 use x509_parser::der::{BerError, Err};
 use x509_parser::error::X509Error;
 use x509_parser::parse_x509_certificate_located;
@@ -21,7 +25,9 @@ pub enum Next {
 }
 
 /// What comes next after a refusal.
-pub fn next_after(refusal: &Err<X509Error>) -> Next {
+pub fn next_after(refusal: &Err<X509Error>) -> Next
+    ensures { result ≡ what_next refusal.now }
+{
     match refusal {
         Err::Incomplete => Next::AwaitMore,
         _ if refusal.is_out_of_memory() => Next::TryAgain,
@@ -30,31 +36,32 @@ pub fn next_after(refusal: &Err<X509Error>) -> Next {
 }
 
 /// Whether the refusal is that of a tag that doesn't belong where it stands, as a list has where a certificate is wanted.
-pub fn is_another_structure(refusal: &Err<X509Error>) -> bool {
+pub fn is_another_structure(refusal: &Err<X509Error>) -> bool
+    ensures { IsTrue result ↔ (refusal.now ≡ refusals.Error (Der InvalidTag)) }
+{
     matches!(refusal, Err::Error(X509Error::Der(BerError::InvalidTag)))
 }
 
-/// Why the bytes are no certificate, in words, and the octet, counted from their front, at which the fault lies; None where they
-/// are one, or where memory is wanting.
-pub fn fault_in(alloc: Global, input: &[u8]) -> Option<(usize, &'static str)>
-    ensures { IfSome result (λ fault. IsFault input.now fault.0 fault.1.now) }
+/// Why the bytes are no certificate, in words, and the octet, counted from their front, at which the fault lies; None where a
+/// certificate stands at their front.
+pub fn fault_in(alloc: Global, input: &[u8]) -> Result<Option<(usize, &'static str)>, AllocError>
+    ensures { IfOk result (λ fault. MatchOption fault (IsCertificate input.now) (λ x. IsFault input.now x.0 x.1.now)) }
 {
     match parse_x509_certificate_located(alloc, input) {
-        Err(refusal) if !refusal.why.is_out_of_memory() => {
-            Some((refusal.at, refusal.why.word()))
-        }
-        _ => None,
+        Ok(_) => Ok(None),
+        Err(refusal) if refusal.why.is_out_of_memory() => Err(AllocError),
+        Err(refusal) => Ok(Some((refusal.at, refusal.why.word()))),
     }
 }
 
-/// The names of the fields that lead to the fault of bytes that are no certificate, as `tbsCertificate.validity.notAfter`; None where they
-/// are one, or where memory is wanting.
-pub fn field_at_fault(alloc: Global, input: &[u8]) -> Option<String>
-    ensures { IfSome result (λ path. IsPathToFault input.now (string_bytes path)) }
+/// The names of the fields that lead to the fault of bytes that are no certificate, as `tbsCertificate.validity.notAfter`; None where
+/// a certificate stands at their front.
+pub fn field_at_fault(alloc: Global, input: &[u8]) -> Result<Option<String>, AllocError>
+    ensures { IfOk result (λ path. MatchOption path (IsCertificate input.now) (λ text. IsPathToFault input.now (string_bytes text))) }
 {
-    let (at, _) = fault_in(alloc, input)?;
-    match path_to(alloc, Part::Certificate, input, at) {
-        Ok(path) => Some(path),
-        Err(_) => None,
-    }
+    let Some((at, _)) = fault_in(alloc, input)? else {
+        return Ok(None);
+    };
+    let path = path_to(alloc, Part::Certificate, input, at)?;
+    Ok(Some(path))
 }

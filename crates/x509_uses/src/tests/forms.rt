@@ -2,8 +2,9 @@
 
 use super::kept;
 use crate::{
-    Next, count_revoked, days_left, days_valid, entry_of, first_identifier, has_strong_key, hosts,
-    is_another_structure, is_known, is_modest, next_after, outline,
+    Next, count_revoked, days_left, days_valid, entry_in_octets, entry_of, fault_in,
+    field_at_fault, first_identifier, has_strong_key, hosts, is_another_structure, is_known,
+    is_modest, next_after, outline,
 };
 use std::test::Fail;
 use x509_parser::certification_request::X509CertificationRequest;
@@ -74,6 +75,8 @@ fn of_a_list(rt: HostRuntime) -> Result<(), Fail> {
         count_revoked(list, &[there, away, UnsignedBytes::new(b"\x07")])?,
         2
     );
+    let found = kept(rt.alloc(), entry_in_octets(rt.alloc(), LIST, &there)?)?;
+    assert!(rt; matches!(found, Some((1, entry)) if entry.raw_serial() == b"\x00\xA1".as_slice()));
     Ok(())
 }
 
@@ -99,6 +102,16 @@ fn of_refusals(rt: HostRuntime) -> Result<(), Fail> {
         .ok_or("a list")?;
     assert!(rt; matches!(next_after(&another), Next::Refuse));
     assert!(rt; is_another_structure(&another));
+    Ok(())
+}
+
+// Where a list has its thisUpdate, a certificate has its validity.
+#[test]
+fn of_a_fault(rt: HostRuntime) -> Result<(), Fail> {
+    assert_eq!(rt; fault_in(rt.alloc(), LIST)?, Some((14, "invalid tag")));
+    assert_eq!(rt; fault_in(rt.alloc(), HOSTS)?, None);
+    let path = kept(rt.alloc(), field_at_fault(rt.alloc(), LIST)?)?;
+    assert!(rt; matches!(path, Some(path) if path.as_str() == "tbsCertificate.validity"));
     Ok(())
 }
 
