@@ -223,6 +223,30 @@ static void mbedtls(list *it, double floor) {
     put("mbedTLS, which copies the list; a scan", read, read, bytes, time[0], time[1], floor);
 }
 #endif
+#ifdef WITH_X509_PARSER
+void *x509_peer_read(const uint8_t *, size_t);
+void x509_peer_free(void *);
+size_t x509_peer_find(const void *, const uint8_t *, size_t);
+static void x509_parser(list *it, double floor) {
+    double read = 0, time[2] = { 0 };
+    size_t bytes = 0, scans = it->count < SCANS ? it->count : SCANS;
+    for (int r = 0; r < 2; r++) {
+        size_t before = held();
+        double start = now();
+        void *crl = x509_peer_read(it->at, it->size);
+        if (!crl) stop("x509-parser doesn't read it");
+        read = least(read, now() - start);
+        bytes = held() - before;
+        for (int which = 0; which < 2; which++) {
+            start = now();
+            for (size_t k = 0; k < scans; k++) it->wrong += x509_peer_find(crl, it->asked[which] + k * SERIAL, SERIAL) != it->expected[which][k];
+            time[which] = least(time[which], (now() - start) / (double)scans);
+        }
+        x509_peer_free(crl);
+    }
+    put("x509-parser, which has no look-up; a scan", read, read, bytes, time[0], time[1], floor);
+}
+#endif
 #ifdef WITH_GNUTLS
 static void gnutls(list *it) {
     double read = 0;
@@ -313,6 +337,9 @@ int main(int argc, char **argv) {
 #endif
 #ifdef WITH_MBEDTLS
         mbedtls(&it, time[0]);
+#endif
+#ifdef WITH_X509_PARSER
+        x509_parser(&it, time[0]);
 #endif
     } else printf("  reading: no entry kept %.2f ms\n", without / 1e6);
 #ifdef WITH_GNUTLS
