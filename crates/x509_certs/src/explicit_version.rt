@@ -8,7 +8,9 @@ ghost use Rattle.x509_der.specs.Promises.{option_view, option_heads, ReadsLeaf, 
 ghost use Rattle.x509_der.specs.Reading.{AddsAtLeast};
 ghost use Rattle.x509_certs.specs.ExplicitVersion.{version_wrapper, wrapped_version, explicit_version};
 
-use x509_der::{Class, Err, Fields, Header, Outside, Place, Refused, Tag, Tries, Window, named};
+use x509_der::{
+    Class, Err, Fields, Header, Outside, Place, Refused, Tag, Tries, Window, converted, named,
+};
 use x509_fields::{X509Error, X509Version};
 
 // The contents of a constructed element.
@@ -21,7 +23,7 @@ fn version_wrapper_of<'a, L: Outside>(
     ensures outer { IfOk result (λ x. outside_in x ≡ L.adds (length (behind (at place.now))) (outside_of place.now)) }
     ensures marks { version_wrapper.marks (at place.now) ≡ true }
 {
-    let wrapper = place.any().map_err(|e| e.convert())?;
+    let wrapper = converted!(place.any());
     if !wrapper.header().constructed {
         return Err(place.refuse(Err::Error(X509Error::InvalidVersion)));
     }
@@ -70,7 +72,7 @@ pub(crate) fn read_version<'a, L: Outside>(
     if fields.are_over() {
         return Ok((fields.same(), None));
     }
-    let any = fields.place.any_loose().map_err(|e| e.convert())?;
+    let any = converted!(fields.place.any_loose());
     match any.header() {
         Header {
             class: Class::ContextSpecific,

@@ -16,7 +16,9 @@ ghost use Rattle.x509_extensions.specs.Parsed.{parsed_of};
 use crate::extension::X509Extension;
 use crate::parsed::{ParsedExtension, parse_value};
 use std::alloc::Global;
-use x509_der::{Err, Fields, Oid, Outside, Place, Reader, Refused, Sequence, Tries, named, ok};
+use x509_der::{
+    Err, Fields, Oid, Outside, Place, Reader, Refused, Sequence, Tries, converted, named, ok,
+};
 use x509_fields::{X509Error, sequence_at};
 
 /// Reads extensions, with or without what their values say.
@@ -194,9 +196,9 @@ fn read_envelope_fields<'a, L: Outside>(
 {
     let contents = sequence_at(place)?;
     let fields = Fields::of(tries, &contents);
-    let (fields, oid) = fields.oid(tries).map_err(|e| e.convert())?;
+    let (fields, oid) = converted!(fields.oid(tries));
     let (fields, critical) = fields.soft_bool_loose(tries);
-    let value = fields.place.octets().map_err(|e| e.convert())?;
+    let value = converted!(fields.place.octets());
     let envelope = Envelope {
         oid,
         critical: critical.unwrap_or(false),

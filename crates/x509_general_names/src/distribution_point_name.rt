@@ -14,6 +14,7 @@ use crate::implicit_names::some_names_in;
 use std::alloc::Global;
 use x509_der::{
     BerError, Class, Err, FromDer, Header, Outside, Place, Refused, Sequence, Tag, Tries, Window,
+    converted,
 };
 use x509_fields::{TryClone, X509Error};
 use x509_names::RelativeDistinguishedName;
@@ -64,7 +65,7 @@ impl<'a> FromDer<'a, X509Error> for DistributionPointName<'a> {
         tries: &mut Tries,
         place: &Place<'a, L>,
     ) -> Result<(Self, bool), Refused<X509Error, L>> {
-        let contents = place.explicit(0).map_err(|e| e.convert())?;
+        let contents = converted!(place.explicit(0));
         let (tail, name, plain) = name_in(alloc, tries, &contents)?;
         Ok((name, plain & tail.is_empty()))
     }
@@ -124,7 +125,7 @@ fn choice_at<'a, L: Outside>(
     ensures marks { choice_header.marks (at place.now) ≡ true }
     ensures sizes { IfOk result (λ x. length x.0.now + 2 ≤ length (at place.now)) }
 {
-    match place.header().map_err(|e| e.convert())? {
+    match converted!(place.header()) {
         (inner, header) if is_choice(header) => Ok((inner, header)),
         _ => Err(place.refuse(Err::Error(X509Error::Der(BerError::InvalidTag)))),
     }

@@ -22,6 +22,7 @@ use std::net::IpAddr;
 use std::{fmt, str};
 use x509_der::{
     Any, BerError, Class, Err, FromDer, HexPairs, Oid, Outside, Place, Refused, Tag, Tries,
+    converted,
 };
 use x509_fields::{TryClone, X509Error};
 use x509_names::X509Name;
@@ -155,7 +156,7 @@ pub(crate) fn context_at<'a, L: Outside>(
     ensures sizes { IfOk result (λ x. length (behind (at place.now)) + length (element_of x).contents + 2 ≤ length (at place.now)) }
     ensures foreign { IsForeign strict (λ h. is_context h.class) (at place.now) → IsErr result }
 {
-    let any = place.any().map_err(|e| e.convert())?;
+    let any = converted!(place.any());
     if any.class() != Class::ContextSpecific {
         return Err(place.refuse(Err::Error(X509Error::Der(BerError::InvalidTag))));
     }

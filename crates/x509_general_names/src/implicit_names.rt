@@ -13,7 +13,9 @@ ghost use Rattle.x509_der.specs.Promises.{ReadsList};
 
 use crate::general_name::GeneralName;
 use std::alloc::Global;
-use x509_der::{ErrorKind, Outside, Place, Reader, Refused, Sequence, Tries, Window, read_run};
+use x509_der::{
+    ErrorKind, Outside, Place, Reader, Refused, Sequence, Tries, Window, converted, read_run,
+};
 use x509_fields::{X509Error, list_error};
 
 /// Names under the context tag of this number, as many as stand there.
@@ -54,7 +56,7 @@ impl<'a> Reader<'a, X509Error, Sequence<GeneralName<'a>>> for ImplicitNames {
         tries: &mut Tries,
         place: &Place<'a, L>,
     ) -> Result<(Sequence<GeneralName<'a>>, bool), Refused<X509Error, L>> {
-        let contents = place.implicit(self.number).map_err(|e| e.convert())?;
+        let contents = converted!(place.implicit(self.number));
         let (tail, names, plain) = place.judge(read_run(alloc, tries, contents.bytes()))?;
         Ok((names, plain & tail.is_empty()))
     }
@@ -100,7 +102,7 @@ impl<'a> Reader<'a, X509Error, Sequence<GeneralName<'a>>> for SomeNames {
         tries: &mut Tries,
         place: &Place<'a, L>,
     ) -> Result<(Sequence<GeneralName<'a>>, bool), Refused<X509Error, L>> {
-        let contents = place.implicit(self.number).map_err(|e| e.convert())?;
+        let contents = converted!(place.implicit(self.number));
         let (tail, names, plain) = some_names_in(alloc, tries, &contents)?;
         Ok((names, plain & tail.is_empty()))
     }

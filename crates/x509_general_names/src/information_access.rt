@@ -19,7 +19,7 @@ use std::alloc::Global;
 use std::collections::HashMap;
 use std::hash::BuildHasher;
 use x509_der::{
-    ErrorKind, Fields, FromDer, Oid, Outside, Place, Refused, Sequence, Tries, read_run,
+    ErrorKind, Fields, FromDer, Oid, Outside, Place, Refused, Sequence, Tries, converted, read_run,
 };
 use x509_fields::{TryClone, X509Error, add_to_group, list_error, sequence_at};
 
@@ -79,7 +79,7 @@ impl<'a> FromDer<'a, X509Error> for AccessDescription<'a> {
     ) -> Result<(Self, bool), Refused<X509Error, L>> {
         let contents = sequence_at(place)?;
         let fields = Fields::of(tries, &contents);
-        let (fields, access_method) = fields.oid(tries).map_err(|e| e.convert())?;
+        let (fields, access_method) = converted!(fields.oid(tries));
         let (access_location, plain) = fields.last(alloc, tries)?;
         let description = AccessDescription {
             access_method,

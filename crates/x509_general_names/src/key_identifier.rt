@@ -9,7 +9,7 @@ ghost use Rattle.x509_general_names.specs.KeyIdentifier.{key_identifier_of, key_
 
 use std::alloc::Global;
 use std::fmt;
-use x509_der::{FromDer, HexPairs, Outside, Place, Refused, Tries};
+use x509_der::{FromDer, HexPairs, Outside, Place, Refused, Tries, converted};
 use x509_fields::X509Error;
 
 /// The identifier of a key (RFC 5280, section 4.2.1.2).
@@ -51,7 +51,7 @@ impl<'a> FromDer<'a, X509Error> for KeyIdentifier<'a> {
         _tries: &mut Tries,
         place: &Place<'a, L>,
     ) -> Result<(Self, bool), Refused<X509Error, L>> {
-        let octets = place.octets().map_err(|e| e.convert())?;
+        let octets = converted!(place.octets());
         Ok((KeyIdentifier(octets), true))
     }
 

@@ -11,7 +11,8 @@ ghost use Rattle.x509_general_names.specs.NameConstraints.{general_subtrees_laws
 use crate::general_name::GeneralName;
 use std::alloc::Global;
 use x509_der::{
-    ErrorKind, Fields, FromDer, Outside, Place, Reader, Refused, Sequence, Tries, read_run,
+    ErrorKind, Fields, FromDer, Outside, Place, Reader, Refused, Sequence, Tries, converted,
+    read_run,
 };
 use x509_fields::{TryClone, X509Error, list_error, sequence_at};
 
@@ -178,7 +179,7 @@ impl<'a> Reader<'a, X509Error, Sequence<GeneralSubtree<'a>>> for Subtrees {
         tries: &mut Tries,
         place: &Place<'a, L>,
     ) -> Result<(Sequence<GeneralSubtree<'a>>, bool), Refused<X509Error, L>> {
-        let contents = place.explicit(self.number).map_err(|e| e.convert())?;
+        let contents = converted!(place.explicit(self.number));
         let (rest, subtrees, plain) = place.judge(read_run(alloc, tries, contents.bytes()))?;
         if subtrees.is_empty() {
             return Err(contents.refuse_at(rest, list_error(ErrorKind::Many1)));

@@ -13,7 +13,7 @@ ghost use Rattle.x509_general_names.specs.ReasonFlags.{reason_flags_of, reason_f
 
 use std::alloc::Global;
 use std::fmt;
-use x509_der::{Fields, FromDer, Outside, Place, Refused, Tries};
+use x509_der::{Fields, FromDer, Outside, Place, Refused, Tries, converted};
 use x509_fields::{BitNames, FlagNames, X509Error, flags_of, is_set};
 
 /// Why certificates are revoked (RFC 5280, section 4.2.1.13).
@@ -153,7 +153,7 @@ impl<'a> FromDer<'a, X509Error> for ReasonFlags {
         _tries: &mut Tries,
         place: &Place<'a, L>,
     ) -> Result<(Self, bool), Refused<X509Error, L>> {
-        let bits = place.bits().map_err(|e| e.convert())?;
+        let bits = converted!(place.bits());
         let flags = flags_of(&bits);
         Ok((ReasonFlags { flags }, true))
     }
@@ -192,7 +192,7 @@ fn reasons_at<L: Outside>(
     // No element of another tag is read.
     ensures foreign { IfOk result (λ _. 0 < number → IsForeign strict (is_explicit 0) (at place.now)) }
 {
-    let bits = place.implicit_bits(number).map_err(|e| e.convert())?;
+    let bits = converted!(place.implicit_bits(number));
     let flags = flags_of(&bits);
     Ok(ReasonFlags { flags })
 }

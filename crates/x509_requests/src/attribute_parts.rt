@@ -11,7 +11,7 @@ ghost use Rattle.x509_requests.specs.CriAttribute.{parts_of, set_of, loose_seque
 
 use x509_der::{
     Any, BerError, Class, Err, Fields, Header, Oid, Outside, Place, Refused, Tag, Tries, Window,
-    named,
+    converted, named,
 };
 use x509_fields::X509Error;
 
@@ -37,7 +37,7 @@ fn loose_sequence_at<'a, L: Outside>(
         (outside_of place.now) result }
     ensures marks { (lifted loose_sequence).marks (at place.now) ≡ true }
 {
-    let (any, _) = place.any_marked().map_err(|e| e.convert())?;
+    let (any, _) = converted!(place.any_marked());
     match any.header() {
         Header {
             class: Class::Universal,
@@ -88,7 +88,7 @@ fn read_attribute_fields<'a, L: Outside>(
 {
     let contents = loose_sequence_at(place)?;
     let fields = Fields::of(tries, &contents);
-    let (fields, oid) = fields.oid(tries).map_err(|e| e.convert())?;
+    let (fields, oid) = converted!(fields.oid(tries));
     let (set, element) = set_at(&fields.place)?;
     let bytes = place.bytes();
     let parts = AttributeParts {

@@ -6,7 +6,7 @@ ghost use Rattle.x509_der.specs.Reading.{strict};
 ghost use Rattle.x509_values.specs.CrlNumber.{crl_number_of, crl_number, crl_number_laws};
 
 use std::alloc::Global;
-use x509_der::{FromDer, Outside, Place, Refused, Tries, UnsignedBytes};
+use x509_der::{FromDer, Outside, Place, Refused, Tries, UnsignedBytes, converted};
 use x509_fields::X509Error;
 
 /// The number of a list of revoked certificates, which grows from list to list (RFC 5280, section 5.2.3).
@@ -44,7 +44,7 @@ impl<'a> FromDer<'a, X509Error> for CRLNumber<'a> {
         _tries: &mut Tries,
         place: &Place<'a, L>,
     ) -> Result<(Self, bool), Refused<X509Error, L>> {
-        let number = place.unsigned().map_err(|e| e.convert())?;
+        let number = converted!(place.unsigned());
         Ok((CRLNumber(number), true))
     }
 

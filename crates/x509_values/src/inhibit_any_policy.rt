@@ -6,7 +6,7 @@ ghost use Rattle.x509_der.specs.Reading.{strict};
 ghost use Rattle.x509_values.specs.InhibitAnyPolicy.{inhibit_any_policy, inhibit_any_policy_laws};
 
 use std::alloc::Global;
-use x509_der::{FromDer, Outside, Place, Refused, Tries};
+use x509_der::{FromDer, Outside, Place, Refused, Tries, converted};
 use x509_fields::X509Error;
 
 /// From where on the policy that stands for any other is ignored (RFC 5280, section 4.2.1.14).
@@ -49,7 +49,7 @@ impl<'a> FromDer<'a, X509Error> for InhibitAnyPolicy {
         _tries: &mut Tries,
         place: &Place<'a, L>,
     ) -> Result<(Self, bool), Refused<X509Error, L>> {
-        let skip_certs = place.u32().map_err(|e| e.convert())?;
+        let skip_certs = converted!(place.u32());
         Ok((InhibitAnyPolicy { skip_certs }, true))
     }
 

@@ -7,7 +7,7 @@ ghost use Rattle.x509_fields.specs.Times.{Time, time_of};
 ghost use Rattle.x509_values.specs.InvalidityDate.{invalidity_date_of, date_in, invalidity_date, invalidity_date_laws};
 
 use std::alloc::Global;
-use x509_der::{BerError, Class, Err, FromDer, Outside, Place, Refused, Tries};
+use x509_der::{BerError, Class, Err, FromDer, Outside, Place, Refused, Tries, converted};
 use x509_fields::{ASN1Time, X509Error, generalized_time};
 
 /// Since when the private key is held to be known to others, or the certificate to be invalid (RFC 5280, section 5.3.2).
@@ -47,7 +47,7 @@ impl<'a> FromDer<'a, X509Error> for InvalidityDate {
         _tries: &mut Tries,
         place: &Place<'a, L>,
     ) -> Result<(Self, bool), Refused<X509Error, L>> {
-        let any = place.any().map_err(|e| e.convert())?;
+        let any = converted!(place.any());
         let header = any.header();
         if header.constructed || !matches!(header.class, Class::Universal) || header.tag.0 != 24 {
             return Err(place.refuse(Err::Error(X509Error::Der(BerError::InvalidTag))));

@@ -10,7 +10,7 @@ ghost use Rattle.x509_values.specs.KeyUsage.{key_usage_of, key_usage, key_usage_
 
 use std::alloc::Global;
 use std::fmt;
-use x509_der::{FromDer, Outside, Place, Refused, Tries};
+use x509_der::{FromDer, Outside, Place, Refused, Tries, converted};
 use x509_fields::{BitNames, FlagNames, X509Error, flags_of, is_set};
 
 /// What a key may be used for (RFC 5280, section 4.2.1.3).
@@ -156,7 +156,7 @@ impl<'a> FromDer<'a, X509Error> for KeyUsage {
         _tries: &mut Tries,
         place: &Place<'a, L>,
     ) -> Result<(Self, bool), Refused<X509Error, L>> {
-        let bits = place.bits().map_err(|e| e.convert())?;
+        let bits = converted!(place.bits());
         let flags = flags_of(&bits);
         Ok((KeyUsage { flags }, true))
     }

@@ -10,7 +10,7 @@ ghost use Rattle.x509_values.specs.NsCertType.{ns_cert_type_of, octet_flags, ns_
 
 use std::alloc::Global;
 use std::fmt;
-use x509_der::{BerError, Err, FromDer, Outside, Place, Refused, Tries};
+use x509_der::{BerError, Err, FromDer, Outside, Place, Refused, Tries, converted};
 use x509_fields::{BitNames, FlagNames, X509Error, is_set};
 
 /// What a certificate may be used for (Netscape certificate extensions, netscape-cert-type).
@@ -147,7 +147,7 @@ impl<'a> FromDer<'a, X509Error> for NSCertType {
         _tries: &mut Tries,
         place: &Place<'a, L>,
     ) -> Result<(Self, bool), Refused<X509Error, L>> {
-        let bits = place.bits().map_err(|e| e.convert())?;
+        let bits = converted!(place.bits());
         match octet_flags(bits.bytes) {
             Some(flags) => Ok((NSCertType { flags }, true)),
             None => Err(place.refuse(Err::Error(X509Error::Der(BerError::BerValueError)))),

@@ -9,7 +9,7 @@ ghost use Rattle.x509_values.specs.Policies.{policy, policy_heads, policy_laws, 
 
 use std::alloc::Global;
 use x509_der::{
-    BerError, Fields, FromDer, Oid, Outside, Place, Refused, Sequence, Tries, read_run1,
+    BerError, Fields, FromDer, Oid, Outside, Place, Refused, Sequence, Tries, converted, read_run1,
     read_to_end,
 };
 use x509_fields::{TryClone, X509Error, sequence_at};
@@ -221,9 +221,9 @@ impl<'a> FromDer<'a, X509Error> for PolicyList<'a> {
         place: &Place<'a, L>,
     ) -> Result<(Self, bool), Refused<X509Error, L>> {
         let contents = sequence_at(place)?;
-        let (policies, plain) = read_to_end::<BerError, PolicyInformation<'a>, L>(
+        let (policies, plain) = converted!(read_to_end::<BerError, PolicyInformation<'a>, L>(
             alloc, tries, &contents,
-        ).map_err(|e| e.convert())?;
+        ));
         Ok((PolicyList { policies }, plain))
     }
 

@@ -14,7 +14,8 @@ use std::alloc::Global;
 use std::collections::HashMap;
 use std::hash::BuildHasher;
 use x509_der::{
-    BerError, Fields, FromDer, Oid, Outside, Place, Refused, Sequence, Tries, read_to_end,
+    BerError, Fields, FromDer, Oid, Outside, Place, Refused, Sequence, Tries, converted,
+    read_to_end,
 };
 use x509_fields::{TryClone, X509Error, add_to_group, sequence_at};
 
@@ -180,9 +181,9 @@ impl<'a> FromDer<'a, X509Error> for PolicyMappings<'a> {
         place: &Place<'a, L>,
     ) -> Result<(Self, bool), Refused<X509Error, L>> {
         let contents = sequence_at(place)?;
-        let (mappings, plain) = read_to_end::<BerError, PolicyMapping<'a>, L>(
+        let (mappings, plain) = converted!(read_to_end::<BerError, PolicyMapping<'a>, L>(
             alloc, tries, &contents,
-        ).map_err(|e| e.convert())?;
+        ));
         Ok((PolicyMappings { mappings }, plain))
     }
 

@@ -6,7 +6,7 @@ ghost use Rattle.x509_der.specs.Reading.{strict};
 ghost use Rattle.x509_values.specs.ReasonCode.{reason_code_of, reason_code, reason_code_laws};
 
 use std::alloc::Global;
-use x509_der::{BerError, Err, FromDer, Outside, Place, Refused, Tries};
+use x509_der::{BerError, Err, FromDer, Outside, Place, Refused, Tries, converted};
 use x509_fields::{ReasonCode, X509Error};
 
 /// Why a certificate was revoked, as the extension of an entry says it (RFC 5280, section 5.3.1).
@@ -54,7 +54,7 @@ impl<'a> FromDer<'a, X509Error> for ReasonCodeValue {
         _tries: &mut Tries,
         place: &Place<'a, L>,
     ) -> Result<(Self, bool), Refused<X509Error, L>> {
-        let number = place.enumerated().map_err(|e| e.convert())?;
+        let number = converted!(place.enumerated());
         match u8::try_from(number) {
             Ok(code @ 0..=10) => Ok((ReasonCodeValue(ReasonCode(code)), true)),
             _ => Err(place.refuse(Err::Error(X509Error::Der(BerError::BerValueError)))),

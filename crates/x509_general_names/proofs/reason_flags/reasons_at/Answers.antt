@@ -4,5 +4,5 @@ use Rattle.x509_der.specs.Primitives.{bit_string}
 use Rattle.x509_general_names.proofs.Foreign.{bits_foreign}
 use Rattle.x509_general_names.proofs.reason_flags.reasons_at.Goals as goal
 
-pub returns-clause-foreign : goal.returns-clause-foreign
-returns-clause-foreign g c = λ some. bits_foreign c.args.number c.args.place.now.bytes.now (bit_string c.in_ok-bits.bits) (behind c.args.place.now.bytes.now) c.args.place.now.octets (search rules) some
+pub returns-2-clause-foreign : goal.returns-2-clause-foreign
+returns-2-clause-foreign g c = λ some. bits_foreign c.args.number c.args.place.now.bytes.now (bit_string c.in-Ok-converted.field-0) (behind c.args.place.now.bytes.now) c.args.place.now.octets (search rules) some
