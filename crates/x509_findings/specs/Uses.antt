@@ -5,14 +5,15 @@ use Rattle.x509_der.specs.Primitives.{is_constructed, is_context}
 use Rattle.x509_der.specs.Reading.{header_at, strict}
 use Rattle.x509_paths.specs.declared.part.Part.{Part}
 use Rattle.x509_paths.specs.declared.part.Part.TheVariants as parts
-use Rattle.x509_paths.specs.Cursors.{Standing, Step, first_of, stepped}
-use Rattle.x509_paths.specs.Paths.{Seen, seen, size_of}
+use Rattle.x509_paths.specs.Cursors.{Called, Standing, Step, first_of, stepped}
+use Rattle.x509_paths.specs.Seen.{Seen, seen}
+use Rattle.x509_paths.specs.Paths.{size_of}
 use Rattle.x509_findings.specs.declared.judged.Judged.{Judged}
 use Rattle.x509_findings.specs.declared.judged.Judged.TheVariants.{Absent, Plain, Lenient, Unjudged}
 use Rattle.x509_findings.specs.declared.leniency.Leniency.{Leniency}
-use Rattle.x509_findings.specs.declared.leniency.Leniency.TheVariants.{BytesBehind, Boolean, SerialNumber, Wrapper, LongLength, NoSet, Inside}
+use Rattle.x509_findings.specs.declared.leniency.Leniency.TheVariants.{BytesBehind, Boolean, SerialNumber, Wrapper, LongLength, NoSet, UnreadName, Inside}
 use Rattle.x509_findings.specs.declared.leniency.LenientUse.{LenientUse}
-use Rattle.x509_findings.specs.Judgements.{judged}
+use Rattle.x509_findings.specs.Judgements.{is_leaf, judged, part_judged}
 
 -- a rule, and how many octets stand before the place at which it is used
 pub record Use : Type 0 where
@@ -32,13 +33,6 @@ abbrev pub is_wrapper : Part → Bool
 is_wrapper parts.TaggedExtensions = true
 is_wrapper parts.Attributes = true
 is_wrapper _ = false
-
--- what holds no members
-abbrev pub is_leaf : Part → Bool
-is_leaf parts.Serial = true
-is_leaf parts.Critical = true
-is_leaf parts.Whole = true
-is_leaf _ = false
 
 -- the octets in which its members stand
 abbrev pub contents_of : Part → List ℕ → Seen → List ℕ
@@ -61,30 +55,38 @@ own_rule parts.TaggedExtensions place s = unless (closes s.header (length place 
 own_rule parts.Attributes place s = unless (closes s.header (length place - s.size)) Wrapper
 own_rule parts.Attribute place s = unless (is_ok (header_at strict place)) LongLength
 own_rule parts.Values place s = unless (is_constructed 17 s.header) NoSet
+own_rule parts.RequestedExtensions place s = unless (is_constructed 17 s.header) NoSet
 own_rule _ place s = None
 
 -- the rule of what its reader takes by one, where none of its members uses any
-abbrev pub rule_of : Part → Leniency
-rule_of parts.Serial = SerialNumber
-rule_of parts.Critical = Boolean
-rule_of _ = Inside
+abbrev pub part_rule : Part → Leniency
+part_rule parts.Serial = SerialNumber
+part_rule parts.Critical = Boolean
+part_rule _ = Inside
+
+abbrev pub rule_as : List ℕ → Part → Leniency
+rule_as [] part = part_rule part
+rule_as (c ∷ cs) part = UnreadName
+
+abbrev pub rule_of : Called → Leniency
+rule_of c = rule_as c.alternative c.part
 
 abbrev pub or_own : Use → List Use → List Use
 or_own own [] = own ∷ []
 or_own own (u ∷ us) = u ∷ us
 
--- of a part that stands so, where these are used inside
-abbrev pub told : Part → Judged → ℕ → List Use → List Use
-told part Absent at within = []
-told part Plain at within = []
-told part Lenient at within = or_own (uses (rule_of part) at) within
-told part Unjudged at within = within
+-- of a part that stands so, where these are used inside, and this is its own
+abbrev pub told : Leniency → Judged → ℕ → List Use → List Use
+told rule Absent at within = []
+told rule Plain at within = []
+told rule Lenient at within = or_own (uses rule at) within
+told rule Unjudged at within = within
 
 -- ---- the members of an element
 
 -- what is read of a part at a place
 abbrev pub Look : Type 0
-Look = Part → Judged → ℕ → List ℕ → List Use
+Look = Called → Judged → ℕ → List ℕ → List Use
 
 -- what is read from one member on: what may come, where it stands, and the octets that are left
 abbrev pub More : Type 0
@@ -96,10 +98,10 @@ octets_behind at = uses BytesBehind at ∷ []
 
 abbrev pub member_judged : Look → More → Step → ℕ → List ℕ → Seen → Judged → List Use
 member_judged look more step at place s Absent = octets_behind at
-member_judged look more step at place s j = look step.0.part j at place ++ more step.1 (at + size_of s) (behind_of step.0.part s)
+member_judged look more step at place s j = look step.0 j at place ++ more step.1 (at + size_of s) (behind_of step.0.part s)
 
 abbrev pub member_stepped : Look → More → List ℕ → ℕ → List ℕ → Seen → Step → List Use
-member_stepped look more around at place s step = member_judged look more step at place s (judged step.0.part around place)
+member_stepped look more around at place s step = member_judged look more step at place s (judged step.0 around place)
 
 abbrev pub member_seen : Look → More → Standing → List ℕ → ℕ → List ℕ → Option Seen → List Use
 member_seen look more standing around at place None = octets_behind at
@@ -126,11 +128,11 @@ inside_seen look part at place (Some s) =
 -- the rules that are used inside the element at the front of a place, as deep as so many parts stand in one another
 unfoldable pub inside : ℕ → Part → ℕ → List ℕ → List Use
 inside zero part at place = []
-inside (suc n) part at place = inside_seen (λ p j a w. told p j a (inside n p a w)) part at place (seen place)
+inside (suc n) part at place = inside_seen (λ c j a w. told (rule_of c) j a (inside n c.part a w)) part at place (seen place)
 
 abbrev pub deepest : ℕ
 deepest = 32
 
 -- of the object at the front of the octets
 abbrev pub leniencies : Part → List ℕ → List Use
-leniencies object octets = told object (judged object octets octets) 0 (inside deepest object 0 octets)
+leniencies object octets = told (part_rule object) (part_judged object octets octets) 0 (inside deepest object 0 octets)

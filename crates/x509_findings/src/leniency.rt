@@ -18,6 +18,8 @@ pub enum Leniency {
     LongLength,
     /// The values of a request's attribute are no SET (RFC 2986, section 4.1).
     NoSet,
+    /// A general name whose contents can't be read, which is told as `Invalid` (RFC 5280, section 4.2.1.6).
+    UnreadName,
     /// A rule that the reader of this element uses inside it, as one of an extension's value or of an attribute's.
     Inside,
 }

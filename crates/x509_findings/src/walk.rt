@@ -1,14 +1,15 @@
 //! The walk down the parts of an object that don't stand plainly.
 
 ghost use Rattle.std.specs.Prelude.{◌≡◌, ◌+◌, ◌++◌, ◌<◌, ◌≤◌, ◌^◌, ℕ, List, MatchResult, OnOk, ⊤, length, map};
-ghost use Rattle.x509_paths.specs.Paths.{seen_of};
-ghost use Rattle.x509_findings.specs.Uses.{behind_of, contents_of, deepest, inside, is_leaf, is_wrapper, leniencies, own_rule, rule_of, told, use_of};
+ghost use Rattle.x509_paths.specs.Cursors.{called_of};
+ghost use Rattle.x509_paths.specs.Seen.{seen_of};
+ghost use Rattle.x509_findings.specs.Uses.{behind_of, contents_of, deepest, inside, is_wrapper, leniencies, own_rule, part_rule, rule_of, told, use_of};
 
-use crate::judged::{Judged, judge};
+use crate::judged::{Judged, is_leaf, judge, judge_part};
 use crate::leniency::{Leniency, LenientUse};
 use std::alloc::{AllocError, Global};
 use x509_der::{Class, Tries, read_header};
-use x509_paths::{Cursor, Part, Seen, see};
+use x509_paths::{Called, Cursor, Part, Seen, see};
 
 /// How many parts of an object stand in one another at most.
 const DEEPEST: usize = 32;
@@ -18,13 +19,6 @@ fn is_wrapper(part: Part) -> bool
     ensures { result ≡ is_wrapper part }
 {
     matches!(part, Part::TaggedExtensions | Part::Attributes)
-}
-
-/// Whether a part holds no members.
-fn is_leaf(part: Part) -> bool
-    ensures { result ≡ is_leaf part }
-{
-    matches!(part, Part::Serial | Part::Critical | Part::Whole)
 }
 
 /// The octets in which the members of a part stand.
@@ -71,7 +65,7 @@ fn own_rule(part: Part, place: &[u8], seen: &Seen<'_>) -> Option<Leniency>
                 Some(Leniency::LongLength)
             }
         }
-        Part::Values => {
+        Part::Values | Part::RequestedExtensions => {
             if matches!(header.class, Class::Universal)
                 && header.constructed
                 && header.tag.0 == 17
@@ -86,13 +80,24 @@ fn own_rule(part: Part, place: &[u8], seen: &Seen<'_>) -> Option<Leniency>
 }
 
 /// The rule of a part that its reader takes by one, where no rule is told of what stands in it.
-fn rule_of(part: Part) -> Leniency
-    ensures { result ≡ rule_of part }
+fn part_rule(part: Part) -> Leniency
+    ensures { result ≡ part_rule part }
 {
     match part {
         Part::Serial => Leniency::SerialNumber,
         Part::Critical => Leniency::Boolean,
         _ => Leniency::Inside,
+    }
+}
+
+/// The same of what is called so.
+fn rule_of(called: &Called) -> Leniency
+    ensures { result ≡ rule_of (called_of called.now) }
+{
+    if called.alternative.is_empty() {
+        part_rule(called.part)
+    } else {
+        Leniency::UnreadName
     }
 }
 
@@ -134,7 +139,7 @@ fn look_inside(
             return Ok(());
         };
         let (called, behind) = cursor.step(&member.header, member.contents);
-        let judged = judge(alloc, called.part, place, left)?;
+        let judged = judge(alloc, &called, place, left)?;
         if judged == Judged::Absent {
             uses.push(LenientUse {
                 at: next,
@@ -142,7 +147,17 @@ fn look_inside(
             })?;
             return Ok(());
         }
-        tell(alloc, depth - 1, called.part, judged, next, left, uses)?;
+        let rule = rule_of(&called);
+        tell(
+            alloc,
+            depth - 1,
+            called.part,
+            rule,
+            judged,
+            next,
+            left,
+            uses,
+        )?;
         cursor = behind;
         next += member.size + member.contents.len();
         left = behind_of(called.part, &member);
@@ -150,19 +165,20 @@ fn look_inside(
     Ok(())
 }
 
-/// Puts the rules there that a part uses which stands so.
+/// Puts the rules there that a part uses which stands so, its own where no rule is told of what stands in it.
 #[cycle(walking)]
 fn tell(
     alloc: Global,
     depth: usize,
     part: Part,
+    rule: Leniency,
     judged: Judged,
     at: usize,
     place: &[u8],
     uses: &mut Vec<LenientUse>,
 ) -> Result<(), AllocError>
     requires { at + length place.now < 2 ^ 64 }
-    ensures { OnOk result (map use_of uses.new.items ≡ map use_of uses.old.items ++ told part judged at (inside depth part at place.now)) }
+    ensures { OnOk result (map use_of uses.new.items ≡ map use_of uses.old.items ++ told rule judged at (inside depth part at place.now)) }
 {
     match judged {
         Judged::Absent | Judged::Plain => Ok(()),
@@ -173,10 +189,7 @@ fn tell(
             if uses.len() > before {
                 return Ok(());
             }
-            uses.push(LenientUse {
-                at,
-                rule: rule_of(part),
-            })?;
+            uses.push(LenientUse { at, rule })?;
             Ok(())
         }
     }
@@ -188,15 +201,12 @@ fn tell(
 /// # Errors
 ///
 /// `AllocError`.
-pub fn leniencies(
-    alloc: Global,
-    object: Part,
-    octets: &[u8],
-) -> Result<Vec<LenientUse>, AllocError>
+pub fn leniencies(alloc: Global, object: Part, octets: &[u8]) -> Result<Vec<LenientUse>, AllocError>
     ensures { MatchResult result (λ uses. map use_of uses.items ≡ leniencies object octets.now) (λ _. ⊤) }
 {
     let mut uses = Vec::new(alloc);
-    let judged = judge(alloc, object, octets, octets)?;
-    tell(alloc, DEEPEST, object, judged, 0, octets, &mut uses)?;
+    let judged = judge_part(alloc, object, octets, octets)?;
+    let rule = part_rule(object);
+    tell(alloc, DEEPEST, object, rule, judged, 0, octets, &mut uses)?;
     Ok(uses)
 }

@@ -12,7 +12,7 @@ use Rattle.x509_paths.specs.declared.part.Part.{Part}
 use Rattle.x509_paths.specs.declared.part.Part.TheVariants as parts
 use Rattle.x509_paths.specs.Fields.{Chosen, Field, chosen, field, is_each}
 use Rattle.x509_paths.specs.Parts.{fields_of}
-use Rattle.x509_paths.specs.Seen.{holds_sequence, is_one}
+use Rattle.x509_paths.specs.Seen.{begins_element, holds_sequence}
 use Rattle.x509_paths.specs.Told.{told_by}
 
 -- the name of its field, its number in a list, the alternative that it is of a choice, and what it is
@@ -57,9 +57,9 @@ resolved part before = part
 abbrev pub is_string : ℕ → Header → Bool
 is_string n h = is_universal h.class && h.tag.0 == n && not h.constructed
 
--- whether the contents are such a part: of an extension's value, one element; of the bits of a key, a SEQUENCE
+-- whether the contents are such a part: of an extension's value, an element at their front; of the bits of a key, a SEQUENCE
 abbrev pub holds : Part → Header → List ℕ → Bool
-holds (parts.Value value) h contents = is_string 4 h && is_one contents
+holds (parts.Value value) h contents = is_string 4 h && begins_element contents
 holds parts.RsaKeyBits h contents = is_string 3 h && holds_sequence contents
 holds part h contents = true
 

@@ -41,7 +41,7 @@ fields_of parts.Certificate =
     []
 fields_of parts.TbsCertificate =
     field (codes "version") (Context 0) parts.Tagged ∷
-    field (codes "serialNumber") Always parts.Whole ∷
+    field (codes "serialNumber") Always parts.Serial ∷
     field (codes "signature") Always parts.Algorithm ∷
     field (codes "issuer") Always parts.Name ∷
     field (codes "validity") Always parts.Validity ∷
@@ -83,7 +83,7 @@ fields_of parts.TaggedExtensions = field [] Always parts.Extensions ∷ []
 fields_of parts.Extensions = field [] Each parts.Extension ∷ []
 fields_of parts.Extension =
     field (codes "extnID") Always parts.ExtensionId ∷
-    field (codes "critical") (Universal 1) parts.Whole ∷
+    field (codes "critical") (Universal 1) parts.Critical ∷
     field (codes "extnValue") Always parts.Told ∷
     []
 fields_of parts.ExtensionId = []
@@ -104,7 +104,7 @@ fields_of parts.TbsList =
     []
 fields_of parts.Revoked = field [] Each parts.Entry ∷ []
 fields_of parts.Entry =
-    field (codes "userCertificate") Always parts.Whole ∷
+    field (codes "userCertificate") Always parts.Serial ∷
     field (codes "revocationDate") Always parts.Whole ∷
     field (codes "crlEntryExtensions") (Universal 16) parts.Extensions ∷
     []
@@ -125,6 +125,8 @@ fields_of parts.Attribute =
     field (codes "values") Always parts.Told ∷
     []
 fields_of parts.AttributeType = []
+fields_of parts.Serial = []
+fields_of parts.Critical = []
 fields_of parts.Values = field [] Each parts.Whole ∷ []
 fields_of parts.RequestedExtensions = field [] Each parts.Extensions ∷ []
 fields_of parts.GeneralNames = field [] Each parts.GeneralName ∷ []

@@ -1,5 +1,5 @@
 -- The element at the front of a window, and what stands in it.
-use Rattle.std.specs.Prelude.{ℕ, ◌-◌, ◌==◌, ◌&&◌, min, Bool, false, List, [], ◌∷◌, length, take, drop, Option, Some, None, Ok, Err}
+use Rattle.std.specs.Prelude.{ℕ, ◌-◌, ◌==◌, nat_le, ◌&&◌, min, Bool, false, List, [], ◌∷◌, length, take, drop, Option, Some, None, Ok, Err}
 use Rattle.x509_der.specs.declared.header.Header.{Header}
 use Rattle.x509_der.specs.Reading.{Reading, header_at, loose}
 use Rattle.x509_paths.specs.declared.seen.Seen.{Seen as RustSeen}
@@ -45,6 +45,14 @@ fills (Err e) = false
 
 abbrev pub is_one : List ℕ → Bool
 is_one octets = fills (header_at loose octets)
+
+-- whether an element stands at the front, whole
+abbrev pub has_all : Reading Header → Bool
+has_all (Ok x) = nat_le x.1.length (length x.0)
+has_all (Err e) = false
+
+abbrev pub begins_element : List ℕ → Bool
+begins_element octets = has_all (header_at loose octets)
 
 -- the octets begin with that of a SEQUENCE (X.690, 8.9.1)
 abbrev pub begins_sequence : List ℕ → Bool

@@ -7,7 +7,7 @@ ghost use Rattle.x509_paths.specs.Fields.{chosen, field};
 
 use crate::field::{Field, Stands, choose, is_each};
 use crate::part::{Part, fields};
-use crate::seen::{holds_sequence, is_one};
+use crate::seen::{begins_element, holds_sequence};
 use crate::told::told_by;
 use x509_der::{Class, Header};
 
@@ -71,7 +71,7 @@ fn holds(part: Part, header: &Header, contents: &[u8]) -> bool
     ensures { result ≡ holds part header.now contents.now }
 {
     match part {
-        Part::Value(_) => is_string(4, header) && is_one(contents),
+        Part::Value(_) => is_string(4, header) && begins_element(contents),
         Part::RsaKeyBits => is_string(3, header) && holds_sequence(contents),
         _ => true,
     }

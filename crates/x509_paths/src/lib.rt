@@ -13,5 +13,5 @@ mod value;
 pub use cursor::{Called, Cursor};
 pub use part::Part;
 pub use path::path_to;
-pub use seen::{holds_sequence, is_one};
+pub use seen::{Seen, holds_sequence, is_one, see};
 pub use value::ExtensionValue;

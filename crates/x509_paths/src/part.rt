@@ -40,6 +40,10 @@ pub enum Part {
     Extensions,
     /// Extension (RFC 5280, section 4.1.2.9).
     Extension,
+    /// A serial number (RFC 5280, sections 4.1.2.2 and 5.1.2.6).
+    Serial,
+    /// Whether an extension is critical (RFC 5280, section 4.2).
+    Critical,
     /// The identifier of an extension, which tells what its value is.
     ExtensionId,
     /// The value of an extension in its OCTET STRING.
@@ -138,7 +142,7 @@ const CERTIFICATE: [Field; 3] = [
 
 const TBS_CERTIFICATE: [Field; 10] = [
     ("version", Stands::Context(0), Part::Tagged),
-    ("serialNumber", Stands::Always, Part::Whole),
+    ("serialNumber", Stands::Always, Part::Serial),
     ("signature", Stands::Always, Part::Algorithm),
     ("issuer", Stands::Always, Part::Name),
     ("validity", Stands::Always, Part::Validity),
@@ -193,7 +197,7 @@ const EXTENSIONS: [Field; 1] = [("", Stands::Each, Part::Extension)];
 
 const EXTENSION: [Field; 3] = [
     ("extnID", Stands::Always, Part::ExtensionId),
-    ("critical", Stands::Universal(1), Part::Whole),
+    ("critical", Stands::Universal(1), Part::Critical),
     ("extnValue", Stands::Always, Part::Told),
 ];
 
@@ -216,7 +220,7 @@ const TBS_LIST: [Field; 7] = [
 const REVOKED: [Field; 1] = [("", Stands::Each, Part::Entry)];
 
 const ENTRY: [Field; 3] = [
-    ("userCertificate", Stands::Always, Part::Whole),
+    ("userCertificate", Stands::Always, Part::Serial),
     ("revocationDate", Stands::Always, Part::Whole),
     (
         "crlEntryExtensions",
@@ -437,7 +441,9 @@ pub(crate) fn fields(part: Part) -> &'static [Field]
         Part::IssuingDistributionPoint => &ISSUING_DISTRIBUTION_POINT,
         Part::Accesses => &ACCESSES,
         Part::Access => &ACCESS,
-        Part::ExtensionId
+        Part::Serial
+        | Part::Critical
+        | Part::ExtensionId
         | Part::AttributeType
         | Part::GeneralName
         | Part::QualifierId

@@ -1,25 +1,26 @@
 //! The element at the front of a window, and what stands in it.
 
 ghost use Rattle.std.specs.Prelude.{◌≡◌, ◌+◌, IfSome, length, option_map};
-ghost use Rattle.x509_paths.specs.Seen.{begins_sequence, front_contents, holds_sequence, is_one, seen, seen_of};
+ghost use Rattle.x509_paths.specs.Seen.{begins_element, begins_sequence, front_contents, holds_sequence, is_one, seen, seen_of};
 
 use x509_der::{Header, Tries, read_header_loose};
 
 /// The element at the front of a window.
-#[derive(Clone, Copy)]
-pub(crate) struct Seen<'a> {
-    pub(crate) header: Header,
+#[derive(Clone, Copy, Debug)]
+pub struct Seen<'a> {
+    /// Its header, the length in any octets.
+    pub header: Header,
     /// How many octets its header has.
-    pub(crate) size: usize,
+    pub size: usize,
     /// Its contents, as far as they are there.
-    pub(crate) contents: &'a [u8],
+    pub contents: &'a [u8],
     /// What stands behind it.
-    pub(crate) behind: &'a [u8],
+    pub behind: &'a [u8],
 }
 
 /// The element at the front of a window; none where no header stands there.
 #[tactic(auto, unfolding(crate::specs::Seen::seen))]
-pub(crate) fn see(window: &[u8]) -> Option<Seen<'_>>
+pub fn see(window: &[u8]) -> Option<Seen<'_>>
     ensures found { option_map seen_of result ≡ seen window.now }
     ensures sizes { IfSome result (λ s. s.size + length s.contents.now + length s.behind.now ≡ length window.now) }
 {
@@ -51,6 +52,16 @@ pub fn is_one(octets: &[u8]) -> bool
 {
     match read_header_loose(&mut Tries::new(), octets) {
         Ok((contents, header)) => contents.len() == header.length as usize,
+        Err(_) => false,
+    }
+}
+
+/// Whether an element stands at the front of these octets, whole.
+pub(crate) fn begins_element(octets: &[u8]) -> bool
+    ensures { result ≡ begins_element octets.now }
+{
+    match read_header_loose(&mut Tries::new(), octets) {
+        Ok((contents, header)) => header.length as usize <= contents.len(),
         Err(_) => false,
     }
 }
