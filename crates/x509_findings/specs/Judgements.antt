@@ -103,6 +103,7 @@ part_judged parts.Entry around place = judged_by revoked place
 part_judged parts.Request around place = judged_by certification_request place
 part_judged parts.RequestInfo around place = judged_by request_info place
 part_judged parts.Attribute around place = judged_by request_attribute place
+part_judged parts.Values around place = Unjudged
 part_judged parts.Unknown around place = Absent
 part_judged part around place = if is_leaf part then judged_by any place else Unjudged
 

@@ -172,6 +172,7 @@ pub(crate) fn judge_part(
         Part::Request => judge_as::<X509Error, X509CertificationRequest<'_>>(alloc, place),
         Part::RequestInfo => judge_as::<X509Error, X509CertificationRequestInfo<'_>>(alloc, place),
         Part::Attribute => judge_as::<X509Error, X509CriAttribute<'_>>(alloc, place),
+        Part::Values => Ok(Judged::Unjudged),
         Part::Unknown => Ok(Judged::Absent),
         _ if is_leaf(part) => Ok(judge_any(place)),
         _ => Ok(Judged::Unjudged),
