@@ -4,7 +4,7 @@ ghost use Rattle.std.specs.Prelude.{◌≡◌, MatchResult, ⊤};
 ghost use Rattle.x509_der.specs.Leaves.{any, bool_loose};
 ghost use Rattle.x509_fields.specs.Serial.{serial};
 ghost use Rattle.x509_extensions.specs.Extension.{extension};
-ghost use Rattle.x509_findings.specs.Judgements.{is_leaf, judged, judged_by, marked, part_judged, value_judged};
+ghost use Rattle.x509_leniencies.specs.Judgements.{is_leaf, judged, judged_by, marked, part_judged, value_judged};
 ghost use Rattle.x509_paths.specs.Cursors.{called_of};
 
 use std::alloc::{AllocError, Global};

@@ -31,8 +31,8 @@ use Rattle.x509_values.specs.PolicyMapping.{policy_mapping}
 use Rattle.x509_paths.specs.Cursors.{Called}
 use Rattle.x509_paths.specs.declared.part.Part.{Part}
 use Rattle.x509_paths.specs.declared.part.Part.TheVariants as parts
-use Rattle.x509_findings.specs.declared.judged.Judged.{Judged}
-use Rattle.x509_findings.specs.declared.judged.Judged.TheVariants.{Absent, Plain, Lenient, Unjudged}
+use Rattle.x509_leniencies.specs.declared.judged.Judged.{Judged}
+use Rattle.x509_leniencies.specs.declared.judged.Judged.TheVariants.{Absent, Plain, Lenient, Unjudged}
 
 -- what is taken stands plainly, or by a lenient rule at least
 abbrev pub marked : Bool → Judged
