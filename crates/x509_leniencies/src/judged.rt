@@ -24,7 +24,7 @@ use x509_values::{PolicyInformation, PolicyMapping, PolicyQualifierInfo};
 
 /// How a part stands at the front of some octets, by its reader.
 #[derive(Clone, Copy, Debug, PartialEq, Eq)]
-pub enum Judged {
+pub(crate) enum Judged {
     /// It doesn't: its reader refuses them.
     Absent,
     /// By no lenient rule.
