@@ -1,13 +1,18 @@
 -- One member after another, of one element inside another.
-use Rattle.std.proofs.Common.{◌≡◌, ℕ, suc, zero, ◌+◌, ◌<◌, List, [], ◌∷◌, ◌++◌, length, map, Option, Some, None, sym, ap, ◌∙◌, refl, arith}
+use Rattle.std.proofs.Common.{◌≡◌, ℕ, suc, zero, ◌+◌, ◌-◌, ◌<◌, ◌≤◌, ◌==◌, Bool, true, false, drop, if◌then◌else◌, List, [], ◌∷◌, ◌++◌, length, map, Option, Some, None, sym, ap, ◌∙◌, refl, arith, append_assoc, append-nil}
+use Rattle.std.proofs.lemmas.Bool.Decides.{nat_tests}
+use Rattle.std.proofs.lemmas.List.{length-drop}
+use Rattle.x509_der.proofs.Marked.{nothing}
 use Rattle.x509_paths.specs.declared.part.Part.{Part}
-use Rattle.x509_paths.specs.Cursors.{Standing, Step, first_of, stepped}
+use Rattle.x509_der.specs.declared.header.Header.{Header}
+use Rattle.x509_paths.specs.Cursors.{Standing, Step, first_of, step_by, stepped}
+use Rattle.x509_paths.specs.Fields.{Chosen, chosen}
 use Rattle.x509_paths.specs.Seen.{Seen, seen}
 use Rattle.x509_paths.specs.Paths.{size_of}
 use Rattle.x509_leniencies.specs.declared.judged.Judged.{Judged}
 use Rattle.x509_leniencies.specs.declared.judged.Judged.TheVariants.{Absent, Plain, Lenient, Unjudged}
-use Rattle.x509_leniencies.specs.Judgements.{judged}
-use Rattle.x509_leniencies.specs.Uses.{Look, Use, behind_of, contents_of, inside, inside_seen, member_judged, member_seen, member_stepped, members, octets_behind, own_rule, own_uses, rule_of, told, uses}
+use Rattle.x509_leniencies.specs.Judgements.{is_absent, is_leaf, judged}
+use Rattle.x509_leniencies.specs.Uses.{Look, Use, behind_of, contents_of, inside, inside_seen, is_wrapper, member_judged, member_seen, member_stepped, members, octets_behind, own_rule, own_uses, rule_of, told, uses}
 
 -- what is looked at in an element that may be so deep
 abbrev pub within : ℕ → Look
@@ -50,20 +55,19 @@ pub member_unseen : (look : Look) (n : ℕ) (standing : Standing) (around : List
     → members look (suc n) standing around at place ≡ octets_behind at
 member_unseen look n standing around at place some is = member look n standing around at place None some is
 
-abbrev step_of : Standing → Seen → Step
-step_of standing s = stepped standing s.header s.contents
-
-judgement : (look : Look) (n : ℕ) (standing : Standing) (around : List ℕ) (at : ℕ) (place : List ℕ) (s : Seen) (j : Judged) → 0 < length place → Some s ≡ seen place
-    → j ≡ judged (step_of standing s).0 around place
-    → members look (suc n) standing around at place ≡ member_judged look (more look n around) (step_of standing s) at place s j
-judgement look n standing around at place s j some is told =
+judgement : (look : Look) (n : ℕ) (standing : Standing) (around : List ℕ) (at : ℕ) (place : List ℕ) (s : Seen) (step : Step) (j : Judged) → 0 < length place → Some s ≡ seen place
+    → step ≡ stepped standing s.header s.contents → j ≡ judged step.0 around place
+    → members look (suc n) standing around at place ≡ member_judged look (more look n around) step at place s j
+judgement look n standing around at place s step j some is goes told =
     member look n standing around at place (Some s) some is
-    ∙ ap (member_judged look (more look n around) (step_of standing s) at place s) (sym told)
+    ∙ ap (member_stepped look (more look n around) around at place s) (sym goes)
+    ∙ ap (member_judged look (more look n around) step at place s) (sym told)
 
-pub member_absent : (look : Look) (n : ℕ) (standing : Standing) (around : List ℕ) (at : ℕ) (place : List ℕ) (s : Seen) → 0 < length place → Some s ≡ seen place
-    → Absent ≡ judged (step_of standing s).0 around place
+pub member_absent : (look : Look) (n : ℕ) (standing : Standing) (around : List ℕ) (at : ℕ) (place : List ℕ) (s : Seen) (step : Step) (j : Judged) → 0 < length place → Some s ≡ seen place
+    → step ≡ stepped standing s.header s.contents → j ≡ judged step.0 around place → j ≡ Absent
     → members look (suc n) standing around at place ≡ octets_behind at
-member_absent look n standing around at place s some is told = judgement look n standing around at place s Absent some is told
+member_absent look n standing around at place s step j some is goes told absent =
+    judgement look n standing around at place s step Absent some is goes (sym absent ∙ told)
 
 there : (look : Look) (rest : Standing → ℕ → List ℕ → List Use) (step : Step) (at : ℕ) (place : List ℕ) (s : Seen) (j : Judged) → (j ≡ Absent → ⊥)
     → member_judged look rest step at place s j ≡ look step.0 j at place ++ rest step.1 (at + size_of s) (behind_of step.0.part s)
@@ -72,10 +76,79 @@ there look rest step at place s Plain stands = refl
 there look rest step at place s Lenient stands = refl
 there look rest step at place s Unjudged stands = refl
 
-pub member_there : (look : Look) (n : ℕ) (standing : Standing) (around : List ℕ) (at : ℕ) (place : List ℕ) (s : Seen) (j : Judged) → 0 < length place → Some s ≡ seen place
-    → j ≡ judged (step_of standing s).0 around place → (j ≡ Absent → ⊥)
-    → members look (suc n) standing around at place
-    ≡ look (step_of standing s).0 j at place ++ members look n (step_of standing s).1 around (at + size_of s) (behind_of (step_of standing s).0.part s)
-member_there look n standing around at place s j some is told stands =
-    judgement look n standing around at place s j some is told
-    ∙ there look (more look n around) (step_of standing s) at place s j stands
+pub member_there : (look : Look) (n : ℕ) (standing : Standing) (around : List ℕ) (at : ℕ) (place : List ℕ) (s : Seen) (step : Step) (j : Judged) → 0 < length place → Some s ≡ seen place
+    → step ≡ stepped standing s.header s.contents → j ≡ judged step.0 around place → (j ≡ Absent → ⊥)
+    → members look (suc n) standing around at place ≡ look step.0 j at place ++ members look n step.1 around (at + size_of s) (behind_of step.0.part s)
+member_there look n standing around at place s step j some is goes told stands =
+    judgement look n standing around at place s step j some is goes told ∙ there look (more look n around) step at place s j stands
+
+-- ---- what was found, and what is used from there on
+
+-- so contents and fields begin
+pub begun : (n : ℕ) (part : Part) (at : ℕ) (place : List ℕ) (s : Seen) (contents : List ℕ) (standing : Standing) (m : ℕ) → Some s ≡ seen place → contents ≡ contents_of part place s → standing ≡ first_of part → m ≡ length contents
+    → inside (suc n) part at place ≡ own_uses (own_rule part place s) at ++ members (within n) m standing place (at + s.size) contents
+begun n part at place s contents standing m is holds stands all =
+    inside_seen_so n part at place s is
+    ∙ ap (λ more. own_uses (own_rule part place s) at ++ more)
+    (ap (λ octets. members (within n) (length octets) (first_of part) place (at + s.size) octets) (sym holds)
+    ∙ ap (λ first. members (within n) (length contents) first place (at + s.size) contents) (sym stands)
+    ∙ ap (λ k. members (within n) k standing place (at + s.size) contents) (sym all))
+
+pub nothing_more : (found more : List Use) → more ≡ [] → found ≡ found ++ more
+nothing_more found more none = sym (ap (λ us. found ++ us) none ∙ append-nil found)
+
+pub begins : (before found own more all : List Use) → found ≡ before ++ own → all ≡ own ++ more → found ++ more ≡ before ++ all
+begins before found own more all grew is = ap (λ us. us ++ more) grew ∙ append_assoc before own more ∙ ap (λ us. before ++ us) (sym is)
+
+pub ended : (found more all : List Use) → found ++ more ≡ all → more ≡ [] → found ≡ all
+ended found more all is none = nothing_more found more none ∙ is
+
+pub last_added : (before found new more all : List Use) → found ≡ before ++ new → more ≡ new → before ++ more ≡ all → found ≡ all
+last_added before found new more all grew last is = grew ∙ ap (λ us. before ++ us) (sym last) ∙ is
+
+pub goes_on : (before found new more rest all : List Use) → found ≡ before ++ new → more ≡ new ++ rest → before ++ more ≡ all → found ++ rest ≡ all
+goes_on before found new more rest all grew is total = begins before found new rest more grew is ∙ total
+
+-- ---- sizes
+
+contents_by : (wrapper leaf : Bool) (place : List ℕ) (s : Seen) → s.size + length s.contents + length s.behind ≡ length place
+    → s.size + length (if wrapper then drop s.size place else if leaf then [] else s.contents) ≤ length place
+contents_by true leaf place s whole = omega (arith, whole, length-drop s.size place)
+contents_by false true place s whole = omega (arith, whole)
+contents_by false false place s whole = omega (arith, whole)
+
+pub contents_fit : (part : Part) (place : List ℕ) (s : Seen) → s.size + length s.contents + length s.behind ≡ length place → s.size + length (contents_of part place s) ≤ length place
+contents_fit part place s whole = contents_by (is_wrapper part) (is_leaf part) place s whole
+
+behind_by : (wrapper : Bool) (s : Seen) → length (if wrapper then [] else s.behind) ≤ length s.behind
+behind_by true s = omega arith
+behind_by false s = omega arith
+
+pub behind_fits : (part : Part) (s : Seen) → length (behind_of part s) ≤ length s.behind
+behind_fits part s = behind_by (is_wrapper part) s
+
+pub no_octets : (xs : List ℕ) → true ≡ (length xs == 0) → xs ≡ []
+no_octets xs none = nothing xs (sym none)
+
+pub some_octets : (xs : List ℕ) → false ≡ (length xs == 0) → 0 < length xs
+some_octets xs some = grind (arith, nat_tests, some)
+
+pub absent_is : (j : Judged) → true ≡ is_absent j → j ≡ Absent
+absent_is Absent is = refl
+absent_is Plain is = absurd cc
+absent_is Lenient is = absurd cc
+absent_is Unjudged is = absurd cc
+
+pub present_is : (j : Judged) → false ≡ is_absent j → j ≡ Absent → ⊥
+present_is Absent is = absurd cc
+present_is Plain is = λ h. absurd cc
+present_is Lenient is = λ h. absurd cc
+present_is Unjudged is = λ h. absurd cc
+
+-- one member more stands before the next
+counted_by : (n : ℕ) (before : Part) (h : Header) (contents : List ℕ) (chose : Option Chosen) → (step_by n before h contents chose).1.number ≡ n + 1
+counted_by n before h contents (Some c) = refl
+counted_by n before h contents None = refl
+
+pub counted : (standing : Standing) (s : Seen) → (stepped standing s.header s.contents).1.number ≡ standing.number + 1
+counted standing s = counted_by standing.number standing.told s.header s.contents (chosen standing.fields s.header)

@@ -34,6 +34,10 @@ use Rattle.x509_paths.specs.declared.part.Part.TheVariants as parts
 use Rattle.x509_leniencies.specs.declared.judged.Judged.{Judged}
 use Rattle.x509_leniencies.specs.declared.judged.Judged.TheVariants.{Absent, Plain, Lenient, Unjudged}
 
+abbrev pub is_absent : Judged → Bool
+is_absent Absent = true
+is_absent _ = false
+
 -- what is taken stands plainly, or by a lenient rule at least
 abbrev pub marked : Bool → Judged
 marked true = Plain

@@ -1,5 +1,6 @@
 -- The lenient rules that an object uses: where it stands plainly none, else those of its parts in the order of their octets.
-use Rattle.std.specs.Prelude.{ℕ, zero, suc, ◌+◌, ◌-◌, ◌==◌, ◌&&◌, is_ok, Bool, true, false, List, [], ◌∷◌, ◌++◌, length, drop, Option, Some, None, if◌then◌else◌}
+use Rattle.std.specs.Prelude.{◌≡◌, ◌<◌, ℕ, zero, suc, ◌+◌, ◌-◌, ◌==◌, ◌&&◌, is_ok, Bool, true, false, List, [], ◌∷◌, ◌++◌, length, drop, Option, Some, None, if◌then◌else◌}
+use Rattle.std.proofs.Common.{refl, arith}
 use Rattle.x509_der.specs.declared.header.Header.{Header}
 use Rattle.x509_der.specs.Primitives.{is_constructed, is_context}
 use Rattle.x509_der.specs.Reading.{header_at, strict}
@@ -25,6 +26,9 @@ use_of u = record { at = u.at; rule = u.rule }
 
 abbrev pub uses : Leniency → ℕ → Use
 uses rule at = record { at = at; rule = rule }
+
+abbrev pub one_use : Leniency → ℕ → List Use
+one_use rule at = uses rule at ∷ []
 
 -- ---- the rules of one element
 
@@ -94,7 +98,7 @@ More = Standing → ℕ → List ℕ → List Use
 
 -- behind the last member that can be read stand octets
 abbrev pub octets_behind : ℕ → List Use
-octets_behind at = uses BytesBehind at ∷ []
+octets_behind at = one_use BytesBehind at
 
 abbrev pub member_judged : Look → More → Step → ℕ → List ℕ → Seen → Judged → List Use
 member_judged look more step at place s Absent = octets_behind at
@@ -117,7 +121,7 @@ members look (suc n) standing around at (b ∷ bs) = member_seen look (λ next. 
 
 abbrev pub own_uses : Option Leniency → ℕ → List Use
 own_uses None at = []
-own_uses (Some rule) at = uses rule at ∷ []
+own_uses (Some rule) at = one_use rule at
 
 abbrev pub inside_seen : Look → Part → ℕ → List ℕ → Option Seen → List Use
 inside_seen look part at place None = []
@@ -136,3 +140,27 @@ deepest = 32
 -- of the object at the front of the octets
 abbrev pub leniencies : Part → List ℕ → List Use
 leniencies object octets = told (part_rule object) (part_judged object octets octets) 0 (inside deepest object 0 octets)
+
+-- ---- what a strict reader takes uses none, and what it refuses that is taken at all uses some
+
+none_of : (rule : Leniency) (j : Judged) (within : List Use) → j ≡ Plain → told rule j 0 within ≡ []
+none_of rule Plain within is = refl
+none_of rule Absent within is = refl
+none_of rule Lenient within is = absurd cc
+none_of rule Unjudged within is = absurd cc
+
+one_at_least : (own : Use) (us : List Use) → 0 < length (or_own own us)
+one_at_least own [] = omega arith
+one_at_least own (u ∷ us) = omega arith
+
+some_of : (rule : Leniency) (j : Judged) (within : List Use) → j ≡ Lenient → 0 < length (told rule j 0 within)
+some_of rule Lenient within is = one_at_least (uses rule 0) within
+some_of rule Absent within is = absurd cc
+some_of rule Plain within is = absurd cc
+some_of rule Unjudged within is = absurd cc
+
+pub none_plainly : (object : Part) (octets : List ℕ) → part_judged object octets octets ≡ Plain → leniencies object octets ≡ []
+none_plainly object octets plain = none_of (part_rule object) (part_judged object octets octets) (inside deepest object 0 octets) plain
+
+pub some_leniently : (object : Part) (octets : List ℕ) → part_judged object octets octets ≡ Lenient → 0 < length (leniencies object octets)
+some_leniently object octets lenient = some_of (part_rule object) (part_judged object octets octets) (inside deepest object 0 octets) lenient

@@ -1,10 +1,10 @@
 //! How a part stands at the front of some octets.
 
-ghost use Rattle.std.specs.Prelude.{◌≡◌, MatchResult, ⊤};
+ghost use Rattle.std.specs.Prelude.{◌≡◌, MatchResult, false, ⊤};
 ghost use Rattle.x509_der.specs.Leaves.{any, bool_loose};
 ghost use Rattle.x509_fields.specs.Serial.{serial};
 ghost use Rattle.x509_extensions.specs.Extension.{extension};
-ghost use Rattle.x509_leniencies.specs.Judgements.{is_leaf, judged, judged_by, marked, part_judged, value_judged};
+ghost use Rattle.x509_leniencies.specs.Judgements.{is_absent, is_leaf, judged, judged_by, marked, part_judged, value_judged};
 ghost use Rattle.x509_paths.specs.Cursors.{called_of};
 
 use std::alloc::{AllocError, Global};
@@ -23,7 +23,7 @@ use x509_requests::{X509CertificationRequest, X509CertificationRequestInfo, X509
 use x509_values::{PolicyInformation, PolicyMapping, PolicyQualifierInfo};
 
 /// How a part stands at the front of some octets, by its reader.
-#[derive(Clone, Copy, Debug, PartialEq, Eq)]
+#[derive(Clone, Copy, Debug)]
 pub(crate) enum Judged {
     /// It doesn't: its reader refuses them.
     Absent,
@@ -33,6 +33,13 @@ pub(crate) enum Judged {
     Lenient,
     /// It has no reader of its own: what stands in it tells.
     Unjudged,
+}
+
+/// Whether it doesn't stand there.
+pub(crate) fn is_absent(judged: Judged) -> bool
+    ensures { result ≡ is_absent judged }
+{
+    matches!(judged, Judged::Absent)
 }
 
 /// By whether its reader takes it plainly.

@@ -3,9 +3,11 @@
 ghost use Rattle.std.specs.Prelude.{◌≡◌, ◌+◌, ◌++◌, ◌<◌, ◌≤◌, ◌^◌, ℕ, List, MatchResult, OnOk, ⊤, length, map};
 ghost use Rattle.x509_paths.specs.Cursors.{called_of};
 ghost use Rattle.x509_paths.specs.Seen.{seen_of};
-ghost use Rattle.x509_leniencies.specs.Uses.{behind_of, contents_of, deepest, inside, is_wrapper, leniencies, own_rule, part_rule, rule_of, told, use_of};
+ghost use Rattle.x509_leniencies.specs.Judgements.{part_judged};
+ghost use Rattle.x509_leniencies.specs.declared.judged.Judged.TheVariants.{Lenient, Plain};
+ghost use Rattle.x509_leniencies.specs.Uses.{behind_of, contents_of, deepest, inside, is_wrapper, leniencies, one_use, own_rule, own_uses, part_rule, rule_of, told, use_of};
 
-use crate::judged::{Judged, is_leaf, judge, judge_part};
+use crate::judged::{Judged, is_absent, is_leaf, judge, judge_part};
 use crate::leniency::{Leniency, LenientUse};
 use std::alloc::{AllocError, Global};
 use x509_der::{Class, Tries, read_header};
@@ -44,6 +46,7 @@ fn behind_of<'a>(part: Part, seen: &Seen<'a>) -> &'a [u8]
 
 /// The lenient rule by which the element itself is taken as this part, whatever stands in it.
 fn own_rule(part: Part, place: &[u8], seen: &Seen<'_>) -> Option<Leniency>
+    requires { seen.now.size ≤ length place.now }
     ensures { result ≡ own_rule part place.now (seen_of seen.now) }
 {
     let header = &seen.header;
@@ -101,6 +104,31 @@ fn rule_of(called: &Called) -> Leniency
     }
 }
 
+/// Puts a rule behind those found so far, at this octet.
+fn add(uses: &mut Vec<LenientUse>, rule: Leniency, at: usize) -> Result<(), AllocError>
+    ensures { OnOk result (map use_of uses.new.items ≡ map use_of uses.old.items ++ one_use rule at) }
+{
+    uses.push(LenientUse { at, rule })?;
+    Ok(())
+}
+
+/// Puts the rule there by which the element itself is taken as this part, if there is one.
+fn add_own(
+    part: Part,
+    place: &[u8],
+    seen: &Seen<'_>,
+    uses: &mut Vec<LenientUse>,
+    at: usize,
+) -> Result<(), AllocError>
+    requires { seen.now.size ≤ length place.now }
+    ensures { OnOk result (map use_of uses.new.items ≡ map use_of uses.old.items ++ own_uses (own_rule part place.now (seen_of seen.now)) at) }
+{
+    match own_rule(part, place, seen) {
+        Some(rule) => add(uses, rule, at),
+        None => Ok(()),
+    }
+}
+
 /// Puts the rules behind those found so far that are used inside the element at the front of a place, which is this part and stands behind
 /// so many octets of the object: as deep as so many parts that stand in one another.
 #[cycle(walking)]
@@ -121,9 +149,7 @@ fn look_inside(
     let Some(element) = see(place) else {
         return Ok(());
     };
-    if let Some(rule) = own_rule(part, place, &element) {
-        uses.push(LenientUse { at, rule })?;
-    }
+    add_own(part, place, &element, uses, at)?;
     let mut cursor = Cursor::of(part);
     let mut left = contents_of(part, place, &element);
     let mut next = at + element.size;
@@ -132,19 +158,13 @@ fn look_inside(
             break;
         }
         let Some(member) = see(left) else {
-            uses.push(LenientUse {
-                at: next,
-                rule: Leniency::BytesBehind,
-            })?;
+            add(uses, Leniency::BytesBehind, next)?;
             return Ok(());
         };
         let (called, behind) = cursor.step(&member.header, member.contents);
         let judged = judge(alloc, &called, place, left)?;
-        if judged == Judged::Absent {
-            uses.push(LenientUse {
-                at: next,
-                rule: Leniency::BytesBehind,
-            })?;
+        if is_absent(judged) {
+            add(uses, Leniency::BytesBehind, next)?;
             return Ok(());
         }
         let rule = rule_of(&called);
@@ -189,7 +209,7 @@ fn tell(
             if uses.len() > before {
                 return Ok(());
             }
-            uses.push(LenientUse { at, rule })?;
+            add(uses, rule, at)?;
             Ok(())
         }
     }
@@ -202,7 +222,10 @@ fn tell(
 ///
 /// `AllocError`.
 pub fn leniencies(alloc: Global, object: Part, octets: &[u8]) -> Result<Vec<LenientUse>, AllocError>
-    ensures { MatchResult result (λ uses. map use_of uses.items ≡ leniencies object octets.now) (λ _. ⊤) }
+    ensures exact { MatchResult result (λ uses. map use_of uses.items ≡ leniencies object octets.now) (λ _. ⊤) }
+    // One at least where the reader takes the object and a strict one refuses it, and none where both take it.
+    ensures some { MatchResult result (λ uses. part_judged object octets.now octets.now ≡ Lenient → 0 < length uses.items) (λ _. ⊤) }
+    ensures none { MatchResult result (λ uses. part_judged object octets.now octets.now ≡ Plain → length uses.items ≡ 0) (λ _. ⊤) }
 {
     let mut uses = Vec::new(alloc);
     let judged = judge_part(alloc, object, octets, octets)?;
