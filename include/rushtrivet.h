@@ -532,9 +532,9 @@ enum { RTV_ANY = 0, RTV_A_CERTIFICATE = 1, RTV_A_LIST = 2, RTV_A_REQUEST = 3 };
 rtv_status rtv_json(const uint8_t *der, size_t length, uint32_t kind, bool strict, uint8_t *text, size_t room, size_t *text_length);
 
 /* The names of the fields that lead to an octet of the object at the front of the buffer, as "tbsCertificate.validity.notAfter" or
- * "tbsCertificate.extensions[3].extnValue": what stands at *at of a refusal, as far as headers can be read up to there. kind:
- * RTV_A_CERTIFICATE, RTV_A_LIST or RTV_A_REQUEST; RTV_NOT_FOUND for another. Members of a list are numbered from 0. The text is empty where
- * the octet lies in no member of the object. */
+ * "tbsCertificate.extensions[3].extnValue.basicConstraints.cA": what stands at *at of a refusal, as far as headers can be read up to there.
+ * kind: RTV_A_CERTIFICATE, RTV_A_LIST or RTV_A_REQUEST; RTV_NOT_FOUND for another. Members of a list are numbered from 0, and of a general
+ * name the alternative stands behind: "subjectAltName[0].dNSName". The text is empty where the octet lies in no member of the object. */
 rtv_status rtv_field_path(const uint8_t *der, size_t length, uint32_t kind, size_t octet, uint8_t *text, size_t room, size_t *text_length);
 
 /* ---- rows that hold some valid value */

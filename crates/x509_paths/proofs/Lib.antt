@@ -1,3 +1,4 @@
 pub mod Choosing
+pub mod Deepest
 pub mod Finding
 pub mod Unknown

@@ -81,6 +81,7 @@ path zero part window at before = before
 path (suc more) part window at before =
     where_member (member_at part window at) before λ m. path more m.called.part m.window m.at (named before m.called)
 
--- as many members as stand in one another: in an object a value of an extension is the seventh at most, and has eight in one another
+-- no more members stand in one another (`whole_path`, proofs/Deepest.antt): in a request extnValue is the seventh, and nine stand in it, from
+-- cRLDistributionPoints to the value in a directoryName
 abbrev pub deepest : ℕ
 deepest = 16

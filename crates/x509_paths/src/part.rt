@@ -7,7 +7,7 @@ ghost use Rattle.x509_paths.specs.Parts.{fields_of};
 use crate::field::{Field, Stands};
 use crate::value::{ExtensionValue, value_fields};
 
-/// What an element is, in the words of RFC 5280 and RFC 2986.
+/// What an element is, in the words of RFC 5280 and RFC 2986, and of those that they name.
 #[derive(Clone, Copy, Debug, PartialEq, Eq)]
 pub enum Part {
     /// Certificate (RFC 5280, section 4.1).
@@ -177,11 +177,6 @@ const VALIDITY: [Field; 2] = [
 const KEY_INFO: [Field; 2] = [
     ("algorithm", Stands::Always, Part::KeyAlgorithm),
     ("subjectPublicKey", Stands::Always, Part::Told),
-];
-
-const KEY_ALGORITHM: [Field; 2] = [
-    ("algorithm", Stands::Always, Part::Whole),
-    ("parameters", Stands::Always, Part::Whole),
 ];
 
 const RSA_KEY_BITS: [Field; 1] = [("", Stands::Always, Part::RsaKey)];
@@ -398,7 +393,7 @@ pub(crate) fn fields(part: Part) -> &'static [Field]
         Part::NameAttribute => &NAME_ATTRIBUTE,
         Part::Validity => &VALIDITY,
         Part::KeyInfo => &KEY_INFO,
-        Part::KeyAlgorithm => &KEY_ALGORITHM,
+        Part::KeyAlgorithm => &ALGORITHM,
         Part::RsaKeyBits => &RSA_KEY_BITS,
         Part::RsaKey => &RSA_KEY,
         Part::TaggedExtensions => &TAGGED_EXTENSIONS,
