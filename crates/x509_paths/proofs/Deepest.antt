@@ -75,6 +75,8 @@ deep parts.Accesses = 6
 deep parts.Access = 5
 deep parts.Told = 0
 deep parts.Whole = 0
+deep parts.Serial = 0
+deep parts.Critical = 0
 deep parts.Unknown = 0
 
 either_below : (b : Bool) (x y : Part) (j : ℕ) → deep x ≤ j → deep y ≤ j → deep (if b then x else y) ≤ j
@@ -248,6 +250,8 @@ same (suc n) (suc m) part window at before h g = same_by n m (deep part) (member
 
 limit : (part : Part) → deep part ≤ deepest
 limit parts.Whole = omega arith
+limit parts.Serial = omega arith
+limit parts.Critical = omega arith
 limit _ = omega arith
 
 -- a path of more members is the same

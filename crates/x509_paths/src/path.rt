@@ -45,9 +45,10 @@ fn put_called(text: &mut String, called: &Called) -> Result<(), AllocError>
 }
 
 /// The names that lead to an octet, from 0, of the object of this kind at the front of the octets, as
-/// `tbsCertificate.extensions[3].extnValue.basicConstraints.cA`: those of the innermost member that has the octet in its header or in its contents, and of all
-/// around it. Members of a list have numbers from 0, alternatives of a choice their own name behind that. What an extension's value is its
-/// identifier tells, and so of keys, of requested extensions and of notices. Empty where the octet lies in no member of the object.
+/// `tbsCertificate.extensions[3].extnValue.basicConstraints.cA`: those of the innermost member that has the octet in its header or in its
+/// contents, and of all around it. Members of a list have numbers from 0, alternatives of a choice their own name behind that. What an
+/// extension's value is its identifier tells, and so of keys, of requested extensions and of notices. Empty where the octet lies in no
+/// member of the object.
 ///
 /// # Errors
 ///
