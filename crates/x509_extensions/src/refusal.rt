@@ -1,16 +1,18 @@
 //! Where the value of an extension is refused, and why.
 
+ghost use Rattle.std.specs.Prelude.{◌≡◌, MatchResult, ⊤};
 ghost use Rattle.x509_der.specs.Oid.{oid_bytes};
 ghost use Rattle.x509_fields.specs.Fields.{lifted};
 ghost use Rattle.x509_values.specs.NsComment.{ns_comment};
 ghost use Rattle.x509_values.specs.TimestampList.{timestamps};
 ghost use Rattle.x509_extensions.specs.Kinds.{kind_of};
-ghost use Rattle.x509_extensions.specs.Parsed.{parsed_value, row};
+ghost use Rattle.x509_extensions.specs.Parsed.{parsed_value, row, value_marks};
 ghost use Rattle.x509_extensions.specs.Refusals.{IsErrorOf, IsOrMemory, IsValueRefusal, TellsRefusal, value_refusal};
 
 use crate::extension::X509Extension;
 use crate::kind::Kind;
-use std::alloc::Global;
+use crate::parsed::parse_value;
+use std::alloc::{AllocError, Global};
 use x509_der::{FromDer, Located, Tries};
 use x509_fields::X509Error;
 use x509_general_names::{
@@ -124,5 +126,21 @@ impl X509Extension<'_> {
         ensures error { IsErrorOf (parsed_value (oid_bytes self.now.oid) self.now.value.now) result }
     {
         value_refusal(alloc, self.oid.as_bytes(), self.value)
+    }
+
+    /// Whether a strict reader takes the value: where it can be read, that no lenient rule was used for it and that nothing stands behind it
+    /// in its OCTET STRING. So is a value that can't be read, or whose identifier has no reader: it uses no rule. The value is read for it,
+    /// also where it wasn't looked at before.
+    ///
+    /// # Errors
+    ///
+    /// `AllocError`.
+    pub fn has_plain_value(&self, alloc: Global) -> Result<bool, AllocError>
+        ensures { MatchResult result (λ plain. plain ≡ value_marks (oid_bytes self.now.oid) self.now.value.now) (λ _. ⊤) }
+    {
+        match parse_value(alloc, &mut Tries::new(), &self.oid, self.value) {
+            Ok((_, plain)) => Ok(plain),
+            Err(_) => Err(AllocError),
+        }
     }
 }
