@@ -1,10 +1,11 @@
 -- How large the element at the front is.
-use Rattle.std.proofs.Common.{◌≡◌, ℕ, ◌+◌, ◌<◌, ◌≤◌, ◌&&◌, Bool, true, false, cond, List, [], ◌∷◌, length, take, Option, Some, None, Ok, Err, refl, sym, ap, ◌∙◌, subst, arith, length-take}
+use Rattle.std.proofs.Common.{◌≡◌, ℕ, ◌+◌, ◌<◌, ◌≤◌, ◌&&◌, Bool, true, false, cond, List, [], ◌∷◌, length, take, Ok, Err, refl, sym, ap, ◌∙◌, subst, arith, length-take}
 use Rattle.x509_der.specs.declared.header.Header.{Header}
 use Rattle.x509_der.specs.Reading.{Reading, header_at, loose}
-use Rattle.x509_dump.specs.Fronts.{Front, front_at, front_by, front_with, holds_sequence, is_bits, is_one, is_value, own_in, size_of, there_of}
-use Rattle.x509_paths.specs.Cursors.{Standing, Step, step_by, stepped}
-use Rattle.x509_paths.specs.Fields.{Chosen, chosen}
+use Rattle.x509_dump.specs.Fronts.{Front, front_at, front_by, front_with, is_bits, is_value, own_in, size_of, there_of}
+use Rattle.x509_paths.proofs.Finding.{number_stepped}
+use Rattle.x509_paths.specs.Cursors.{Standing, Step, stepped}
+use Rattle.x509_paths.specs.Seen.{holds_sequence, is_one}
 
 -- the line holds an octet at least, and none of what stands behind the element, which lies in the window
 pub record Fits (f : Front) (whole : ℕ) : Type 0 where
@@ -37,8 +38,9 @@ fits_with whole rest h contents step some =
 
 fits_by : (s : Standing) (whole : ℕ) (r : Reading Header) (f : Front) → 0 < whole → front_by s whole r ≡ Ok f → Fits f whole
 fits_by s whole (Ok x) f some e =
-    let is : front_with whole (size_of whole (length x.0)) x.1 x.0 (stepped s x.1) ≡ f = cc in
-    subst (λ g. Fits g whole) is (fits_with whole (length x.0) x.1 x.0 (stepped s x.1) some)
+    let step = stepped s x.1 (take (there_of whole (size_of whole (length x.0)) x.1) x.0) in
+    let is : front_with whole (size_of whole (length x.0)) x.1 x.0 step ≡ f = cc in
+    subst (λ g. Fits g whole) is (fits_with whole (length x.0) x.1 x.0 step some)
 fits_by s whole (Err why) f some e = absurd cc
 
 pub front_fits : (s : Standing) (window : List ℕ) (f : Front) → 0 < length window → front_at s window ≡ Ok f → Fits f (length window)
@@ -47,14 +49,11 @@ front_fits s window f some e = fits_by s (length window) (header_at loose window
 
 -- one member more stands before what comes next
 
-number_with : (n : ℕ) (o : Option Chosen) → (step_by n o).1.number ≡ n + 1
-number_with n (Some c) = refl
-number_with n None = refl
-
 number_by : (s : Standing) (whole : ℕ) (r : Reading Header) (f : Front) → front_by s whole r ≡ Ok f → f.next.number ≡ s.number + 1
 number_by s whole (Ok x) f e =
-    let is : front_with whole (size_of whole (length x.0)) x.1 x.0 (stepped s x.1) ≡ f = cc in
-    ap (λ g. g.next.number) (sym is) ∙ number_with s.number (chosen s.fields x.1)
+    let contents = take (there_of whole (size_of whole (length x.0)) x.1) x.0 in
+    let is : front_with whole (size_of whole (length x.0)) x.1 x.0 (stepped s x.1 contents) ≡ f = cc in
+    ap (λ g. g.next.number) (sym is) ∙ number_stepped s x.1 contents
 number_by s whole (Err why) f e = absurd cc
 
 pub front_number : (s : Standing) (window : List ℕ) (f : Front) → front_at s window ≡ Ok f → f.next.number ≡ s.number + 1

@@ -28,7 +28,7 @@ pub record Spot : Type 0 where
   pub standing : Standing
 
 abbrev pub nameless : Called
-nameless = record { name = []; number = None; part = parts.Whole }
+nameless = record { name = []; number = None; alternative = []; part = parts.Unknown }
 
 -- no header can be read: all octets of the window, on one line
 abbrev pub refused_line : Spot → List ℕ → Refusal BerError → Line

@@ -1,5 +1,5 @@
 -- The element at the front of a window: its header, what it is called, and which octets its line holds.
-use Rattle.std.specs.Prelude.{ℕ, suc, ◌+◌, ◌-◌, ◌==◌, ◌&&◌, ◌||◌, min, Bool, false, List, [], ◌∷◌, length, take, codes, Result, Ok, Err, if◌then◌else◌}
+use Rattle.std.specs.Prelude.{ℕ, suc, ◌+◌, ◌-◌, ◌==◌, ◌&&◌, ◌||◌, min, Bool, List, length, take, codes, Result, Ok, Err, if◌then◌else◌}
 use Rattle.std.specs.Str.{bytes_eq}
 use Rattle.x509_der.specs.declared.error.BerError.{BerError}
 use Rattle.x509_der.specs.declared.error.Err.{Err as Refusal}
@@ -8,26 +8,9 @@ use Rattle.x509_der.specs.Primitives.{is_universal}
 use Rattle.x509_der.specs.Reading.{Reading, header_at, loose}
 use Rattle.x509_dump.specs.declared.front.Front.{Front as RustFront}
 use Rattle.x509_paths.specs.Cursors.{Called, Standing, Step, called_of, standing_of, stepped}
+use Rattle.x509_paths.specs.Seen.{holds_sequence, is_one}
 
 -- ---- what holds elements
-
--- whether one element stands there, and nothing behind it
-abbrev pub fills : Reading Header → Bool
-fills (Ok x) = length x.0 == x.1.length
-fills (Err e) = false
-
-abbrev pub is_one : List ℕ → Bool
-is_one octets = fills (header_at loose octets)
-
--- the octets begin with that of a SEQUENCE (X.690, 8.9.1)
-abbrev pub begins_sequence : List ℕ → Bool
-begins_sequence [] = false
-begins_sequence (b ∷ bs) = b == 48
-
--- of the contents of a BIT STRING (X.690, 8.6.2): no bit is unused, and a SEQUENCE stands behind
-abbrev pub holds_sequence : List ℕ → Bool
-holds_sequence [] = false
-holds_sequence (unused ∷ octets) = unused == 0 && begins_sequence octets && is_one octets
 
 -- an OCTET STRING that is the value of an extension (RFC 5280, 4.1)
 abbrev pub is_value : List ℕ → Header → Bool
@@ -85,7 +68,9 @@ front_with whole size h rest step = record {
 }
 
 abbrev pub front_by : Standing → ℕ → Reading Header → Fronts
-front_by s whole (Ok x) = Ok (front_with whole (size_of whole (length x.0)) x.1 x.0 (stepped s x.1))
+front_by s whole (Ok x) =
+    let size = size_of whole (length x.0) in
+    Ok (front_with whole size x.1 x.0 (stepped s x.1 (take (there_of whole size x.1) x.0)))
 front_by s whole (Err e) = Err e
 
 unfoldable pub front_at : Standing → List ℕ → Fronts

@@ -79,7 +79,7 @@ number_text (Some n) = codes " [" ++ decimal n ++ codes "]"
 number_text None = []
 
 abbrev pub called_text : Called → List ℕ
-called_text c = name_text c.name ++ number_text c.number
+called_text c = name_text c.name ++ (number_text c.number ++ name_text c.alternative)
 
 -- ---- its value
 

@@ -2,11 +2,11 @@
 
 ghost use Rattle.std.specs.Prelude.{◌≡◌, ◌+◌, ◌<◌, ◌≤◌, ◌^◌, IfOk, Ok, length};
 ghost use Rattle.x509_der.specs.Reading.{Gives};
-ghost use Rattle.x509_dump.specs.Fronts.{begins_sequence, front_at, front_of, holds_sequence, is_bits, is_one, is_value, own_in};
+ghost use Rattle.x509_dump.specs.Fronts.{front_at, front_of, is_bits, is_value, own_in};
 ghost use Rattle.x509_paths.specs.Cursors.{standing_of};
 
 use x509_der::{BerError, Class, Err, Header, Tag, Tries, read_header_loose};
-use x509_paths::{Called, Cursor};
+use x509_paths::{Called, Cursor, holds_sequence, is_one};
 
 /// The element at the front of a window.
 #[derive(Clone, Copy)]
@@ -22,36 +22,6 @@ pub(crate) struct Front {
     pub(crate) next: Cursor,
     /// How many octets its line holds.
     pub(crate) own: usize,
-}
-
-/// Whether these octets are one element.
-fn is_one(octets: &[u8]) -> bool
-    ensures { result ≡ is_one octets.now }
-{
-    match read_header_loose(&mut Tries::new(), octets) {
-        Ok((contents, header)) => contents.len() == header.length as usize,
-        Err(_) => false,
-    }
-}
-
-/// Whether the octets begin with that of a SEQUENCE.
-fn begins_sequence(octets: &[u8]) -> bool
-    ensures { result ≡ begins_sequence octets.now }
-{
-    match octets {
-        [first, ..] => *first == 0x30,
-        [] => false,
-    }
-}
-
-/// Whether these contents of a BIT STRING are whole octets that are a SEQUENCE.
-fn holds_sequence(contents: &[u8]) -> bool
-    ensures { result ≡ holds_sequence contents.now }
-{
-    match contents {
-        [unused, octets @ ..] => *unused == 0 && begins_sequence(octets) && is_one(octets),
-        [] => false,
-    }
 }
 
 /// Whether an element of this name is the value of an extension.
@@ -98,10 +68,11 @@ pub(crate) fn front_element(cursor: Cursor, window: &[u8]) -> Result<Front, Err<
     ensures whole { IfOk result (λ f. f.size + f.there ≤ length window.now) }
 {
     let (rest, header) = read_header_loose(&mut Tries::new(), window)?;
-    let (called, next) = cursor.step(&header);
     let size = window.len() - rest.len();
     let there = rest.len().min(header.length as usize);
-    let own = size + own_in(called.name, &header, &rest[..there]);
+    let contents = &rest[..there];
+    let (called, next) = cursor.step(&header, contents);
+    let own = size + own_in(called.name, &header, contents);
     Ok(Front {
         header,
         size,

@@ -5,7 +5,7 @@ ghost use Rattle.std.specs.List.{list_all};
 ghost use Rattle.x509_der.specs.Hex.{hex_text};
 ghost use Rattle.x509_dump.specs.Elements.{line_of};
 ghost use Rattle.x509_dump.specs.Texts.{called_text, cells, columns, cut_text, element_text, form_text, holds_text, identifier_text, indent, is_identifier};
-ghost use Rattle.x509_dump.specs.Texts.{is_printable, line_text, may_be_text, octets_text, raw_text, refused_text};
+ghost use Rattle.x509_dump.specs.Texts.{is_printable, line_text, may_be_text, name_text, number_text, octets_text, raw_text, refused_text};
 ghost use Rattle.x509_dump.specs.Texts.{tag_text, text_in, truth_word, universal_word, value_shown, value_text};
 ghost use Rattle.x509_paths.specs.Cursors.{called_of};
 ghost use Rattle.x509_report_lines.specs.Escape.{NoControls, escaped};
@@ -82,7 +82,28 @@ pub fn push_tag(text: &mut String, header: &Header) -> Result<(), AllocError>
     }
 }
 
-/// Adds what an element is called, behind a space: the name of its field, and its number in a list.
+/// Adds a name behind a space; nothing where there is no name.
+fn push_name(text: &mut String, name: &str) -> Result<(), AllocError>
+    ensures { OnOk result (string_bytes text.new ≡ string_bytes text.old ++ name_text name.now) }
+{
+    if name.is_empty() {
+        Ok(())
+    } else {
+        write!(text, " {name}")
+    }
+}
+
+/// Adds the number of a member of a list, behind a space.
+fn push_number(text: &mut String, number: Option<usize>) -> Result<(), AllocError>
+    ensures { OnOk result (string_bytes text.new ≡ string_bytes text.old ++ number_text number) }
+{
+    match number {
+        Some(number) => write!(text, " [{number}]"),
+        None => Ok(()),
+    }
+}
+
+/// Adds what an element is called, each behind a space: the name of its field, its number in a list, and its alternative of a choice.
 ///
 /// # Errors
 ///
@@ -90,14 +111,9 @@ pub fn push_tag(text: &mut String, header: &Header) -> Result<(), AllocError>
 pub fn push_called(text: &mut String, called: &Called) -> Result<(), AllocError>
     ensures { OnOk result (string_bytes text.new ≡ string_bytes text.old ++ called_text (called_of called.now)) }
 {
-    let name = called.name;
-    if !name.is_empty() {
-        write!(text, " {name}")?;
-    }
-    match called.number {
-        Some(number) => write!(text, " [{number}]"),
-        None => Ok(()),
-    }
+    push_name(text, called.name)?;
+    push_number(text, called.number)?;
+    push_name(text, called.alternative)
 }
 
 /// Adds a space for each level.

@@ -78,7 +78,8 @@ impl<'a> DumpLines<'a> {
             called: Called {
                 name: "",
                 number: None,
-                part: Part::Whole,
+                alternative: "",
+                part: Part::Unknown,
             },
             what: What::Refused(why),
             octets,

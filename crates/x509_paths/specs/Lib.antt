@@ -1,4 +1,6 @@
 pub mod Fields
+pub mod Seen
 pub mod Parts
-pub mod Paths
+pub mod Told
 pub mod Cursors
+pub mod Paths

@@ -6,7 +6,12 @@ mod field;
 mod member;
 mod part;
 mod path;
+mod seen;
+mod told;
+mod value;
 
 pub use cursor::{Called, Cursor};
 pub use part::Part;
 pub use path::path_to;
+pub use seen::{Seen, holds_sequence, is_one, see};
+pub use value::ExtensionValue;

@@ -5,6 +5,7 @@ ghost use Rattle.x509_paths.specs.Fields.{field};
 ghost use Rattle.x509_paths.specs.Parts.{fields_of};
 
 use crate::field::{Field, Stands};
+use crate::value::{ExtensionValue, value_fields};
 
 /// What an element is, in the words of RFC 5280 and RFC 2986.
 #[derive(Clone, Copy, Debug, PartialEq, Eq)]
@@ -13,7 +14,7 @@ pub enum Part {
     Certificate,
     /// TBSCertificate (RFC 5280, section 4.1).
     TbsCertificate,
-    /// A version in its explicit tag (RFC 5280, section 4.1.2.1).
+    /// An element in its explicit tag, as a version (RFC 5280, section 4.1.2.1).
     Tagged,
     /// AlgorithmIdentifier (RFC 5280, section 4.1.1.2).
     Algorithm,
@@ -27,12 +28,26 @@ pub enum Part {
     Validity,
     /// SubjectPublicKeyInfo (RFC 5280, section 4.1.2.7).
     KeyInfo,
+    /// The AlgorithmIdentifier of a key, which tells what the key is (RFC 5280, section 4.1.2.7).
+    KeyAlgorithm,
+    /// The bits of a key that are an RSAPublicKey (RFC 3279, section 2.3.1).
+    RsaKeyBits,
+    /// RSAPublicKey (RFC 8017, section A.1.1).
+    RsaKey,
     /// Extensions in their explicit tag (RFC 5280, sections 4.1.2.9 and 5.2).
     TaggedExtensions,
     /// Extensions (RFC 5280, section 4.1.2.9).
     Extensions,
     /// Extension (RFC 5280, section 4.1.2.9).
     Extension,
+    /// A serial number (RFC 5280, sections 4.1.2.2 and 5.1.2.6).
+    Serial,
+    /// Whether an extension is critical (RFC 5280, section 4.2).
+    Critical,
+    /// The identifier of an extension, which tells what its value is.
+    ExtensionId,
+    /// The value of an extension in its OCTET STRING.
+    Value(ExtensionValue),
     /// CertificateList (RFC 5280, section 5.1).
     List,
     /// TBSCertList (RFC 5280, section 5.1).
@@ -49,10 +64,74 @@ pub enum Part {
     Attributes,
     /// Attribute (RFC 2986, section 4.1).
     Attribute,
+    /// The type of an attribute, which tells what its values are.
+    AttributeType,
     /// The values of an attribute (RFC 2986, section 4.1).
     Values,
-    /// What is not taken apart here.
+    /// The values of an extensionRequest (RFC 2985, section 5.4.2).
+    RequestedExtensions,
+    /// GeneralNames (RFC 5280, section 4.2.1.6).
+    GeneralNames,
+    /// GeneralName, a choice by the number of the tag (RFC 5280, section 4.2.1.6).
+    GeneralName,
+    /// AnotherName (RFC 5280, section 4.2.1.6).
+    OtherName,
+    /// Name in an explicit tag (RFC 5280, section 4.2.1.6).
+    TaggedName,
+    /// EDIPartyName (RFC 5280, section 4.2.1.6).
+    EdiPartyName,
+    /// AuthorityKeyIdentifier (RFC 5280, section 4.2.1.1).
+    AuthorityKeyIdentifier,
+    /// CertificatePolicies (RFC 5280, section 4.2.1.4).
+    Policies,
+    /// PolicyInformation (RFC 5280, section 4.2.1.4).
+    Policy,
+    /// The qualifiers of a policy (RFC 5280, section 4.2.1.4).
+    Qualifiers,
+    /// PolicyQualifierInfo (RFC 5280, section 4.2.1.4).
+    Qualifier,
+    /// PolicyQualifierId, which tells what the qualifier is (RFC 5280, section 4.2.1.4).
+    QualifierId,
+    /// UserNotice (RFC 5280, section 4.2.1.4).
+    UserNotice,
+    /// NoticeReference (RFC 5280, section 4.2.1.4).
+    NoticeReference,
+    /// The numbers of a NoticeReference (RFC 5280, section 4.2.1.4).
+    NoticeNumbers,
+    /// PolicyMappings (RFC 5280, section 4.2.1.5).
+    PolicyMappings,
+    /// One of them.
+    PolicyMapping,
+    /// BasicConstraints (RFC 5280, section 4.2.1.9).
+    BasicConstraints,
+    /// NameConstraints (RFC 5280, section 4.2.1.10).
+    NameConstraints,
+    /// GeneralSubtrees (RFC 5280, section 4.2.1.10).
+    Subtrees,
+    /// GeneralSubtree (RFC 5280, section 4.2.1.10).
+    Subtree,
+    /// PolicyConstraints (RFC 5280, section 4.2.1.11).
+    PolicyConstraints,
+    /// ExtKeyUsageSyntax (RFC 5280, section 4.2.1.12).
+    Purposes,
+    /// CRLDistributionPoints (RFC 5280, section 4.2.1.13).
+    DistributionPoints,
+    /// DistributionPoint (RFC 5280, section 4.2.1.13).
+    DistributionPoint,
+    /// DistributionPointName in its explicit tag (RFC 5280, section 4.2.1.13).
+    DistributionPointName,
+    /// IssuingDistributionPoint (RFC 5280, section 5.2.5).
+    IssuingDistributionPoint,
+    /// AuthorityInfoAccessSyntax and SubjectInfoAccessSyntax (RFC 5280, sections 4.2.2.1 and 4.2.2.2).
+    Accesses,
+    /// AccessDescription (RFC 5280, section 4.2.2.1).
+    Access,
+    /// What an identifier that stands before it tells.
+    Told,
+    /// A field that is not taken apart here.
     Whole,
+    /// No field.
+    Unknown,
 }
 
 const CERTIFICATE: [Field; 3] = [
@@ -63,7 +142,7 @@ const CERTIFICATE: [Field; 3] = [
 
 const TBS_CERTIFICATE: [Field; 10] = [
     ("version", Stands::Context(0), Part::Tagged),
-    ("serialNumber", Stands::Always, Part::Whole),
+    ("serialNumber", Stands::Always, Part::Serial),
     ("signature", Stands::Always, Part::Algorithm),
     ("issuer", Stands::Always, Part::Name),
     ("validity", Stands::Always, Part::Validity),
@@ -96,8 +175,20 @@ const VALIDITY: [Field; 2] = [
 ];
 
 const KEY_INFO: [Field; 2] = [
-    ("algorithm", Stands::Always, Part::Algorithm),
-    ("subjectPublicKey", Stands::Always, Part::Whole),
+    ("algorithm", Stands::Always, Part::KeyAlgorithm),
+    ("subjectPublicKey", Stands::Always, Part::Told),
+];
+
+const KEY_ALGORITHM: [Field; 2] = [
+    ("algorithm", Stands::Always, Part::Whole),
+    ("parameters", Stands::Always, Part::Whole),
+];
+
+const RSA_KEY_BITS: [Field; 1] = [("", Stands::Always, Part::RsaKey)];
+
+const RSA_KEY: [Field; 2] = [
+    ("modulus", Stands::Always, Part::Whole),
+    ("publicExponent", Stands::Always, Part::Whole),
 ];
 
 const TAGGED_EXTENSIONS: [Field; 1] = [("", Stands::Always, Part::Extensions)];
@@ -105,9 +196,9 @@ const TAGGED_EXTENSIONS: [Field; 1] = [("", Stands::Always, Part::Extensions)];
 const EXTENSIONS: [Field; 1] = [("", Stands::Each, Part::Extension)];
 
 const EXTENSION: [Field; 3] = [
-    ("extnID", Stands::Always, Part::Whole),
-    ("critical", Stands::Universal(1), Part::Whole),
-    ("extnValue", Stands::Always, Part::Whole),
+    ("extnID", Stands::Always, Part::ExtensionId),
+    ("critical", Stands::Universal(1), Part::Critical),
+    ("extnValue", Stands::Always, Part::Told),
 ];
 
 const LIST: [Field; 3] = [
@@ -129,7 +220,7 @@ const TBS_LIST: [Field; 7] = [
 const REVOKED: [Field; 1] = [("", Stands::Each, Part::Entry)];
 
 const ENTRY: [Field; 3] = [
-    ("userCertificate", Stands::Always, Part::Whole),
+    ("userCertificate", Stands::Always, Part::Serial),
     ("revocationDate", Stands::Always, Part::Whole),
     (
         "crlEntryExtensions",
@@ -158,11 +249,140 @@ const REQUEST_INFO: [Field; 4] = [
 const ATTRIBUTES: [Field; 1] = [("", Stands::Each, Part::Attribute)];
 
 const ATTRIBUTE: [Field; 2] = [
-    ("type", Stands::Always, Part::Whole),
-    ("values", Stands::Always, Part::Values),
+    ("type", Stands::Always, Part::AttributeType),
+    ("values", Stands::Always, Part::Told),
 ];
 
 const VALUES: [Field; 1] = [("", Stands::Each, Part::Whole)];
+
+const REQUESTED_EXTENSIONS: [Field; 1] = [("", Stands::Each, Part::Extensions)];
+
+const GENERAL_NAMES: [Field; 1] = [("", Stands::Each, Part::GeneralName)];
+
+const OTHER_NAME: [Field; 2] = [
+    ("type-id", Stands::Always, Part::Whole),
+    ("value", Stands::Context(0), Part::Tagged),
+];
+
+const TAGGED_NAME: [Field; 1] = [("", Stands::Always, Part::Name)];
+
+const EDI_PARTY_NAME: [Field; 2] = [
+    ("nameAssigner", Stands::Context(0), Part::Tagged),
+    ("partyName", Stands::Context(1), Part::Tagged),
+];
+
+const AUTHORITY_KEY_IDENTIFIER: [Field; 3] = [
+    ("keyIdentifier", Stands::Context(0), Part::Whole),
+    (
+        "authorityCertIssuer",
+        Stands::Context(1),
+        Part::GeneralNames,
+    ),
+    ("authorityCertSerialNumber", Stands::Context(2), Part::Whole),
+];
+
+const POLICIES: [Field; 1] = [("", Stands::Each, Part::Policy)];
+
+const POLICY: [Field; 2] = [
+    ("policyIdentifier", Stands::Always, Part::Whole),
+    ("policyQualifiers", Stands::Universal(16), Part::Qualifiers),
+];
+
+const QUALIFIERS: [Field; 1] = [("", Stands::Each, Part::Qualifier)];
+
+const QUALIFIER: [Field; 2] = [
+    ("policyQualifierId", Stands::Always, Part::QualifierId),
+    ("qualifier", Stands::Always, Part::Told),
+];
+
+const USER_NOTICE: [Field; 2] = [
+    ("noticeRef", Stands::Universal(16), Part::NoticeReference),
+    ("explicitText", Stands::Always, Part::Whole),
+];
+
+const NOTICE_REFERENCE: [Field; 2] = [
+    ("organization", Stands::Always, Part::Whole),
+    ("noticeNumbers", Stands::Always, Part::NoticeNumbers),
+];
+
+const NOTICE_NUMBERS: [Field; 1] = [("", Stands::Each, Part::Whole)];
+
+const POLICY_MAPPINGS: [Field; 1] = [("", Stands::Each, Part::PolicyMapping)];
+
+const POLICY_MAPPING: [Field; 2] = [
+    ("issuerDomainPolicy", Stands::Always, Part::Whole),
+    ("subjectDomainPolicy", Stands::Always, Part::Whole),
+];
+
+const BASIC_CONSTRAINTS: [Field; 2] = [
+    ("cA", Stands::Universal(1), Part::Whole),
+    ("pathLenConstraint", Stands::Universal(2), Part::Whole),
+];
+
+const NAME_CONSTRAINTS: [Field; 2] = [
+    ("permittedSubtrees", Stands::Context(0), Part::Subtrees),
+    ("excludedSubtrees", Stands::Context(1), Part::Subtrees),
+];
+
+const SUBTREES: [Field; 1] = [("", Stands::Each, Part::Subtree)];
+
+const SUBTREE: [Field; 3] = [
+    ("base", Stands::Always, Part::GeneralName),
+    ("minimum", Stands::Context(0), Part::Whole),
+    ("maximum", Stands::Context(1), Part::Whole),
+];
+
+const POLICY_CONSTRAINTS: [Field; 2] = [
+    ("requireExplicitPolicy", Stands::Context(0), Part::Whole),
+    ("inhibitPolicyMapping", Stands::Context(1), Part::Whole),
+];
+
+const PURPOSES: [Field; 1] = [("", Stands::Each, Part::Whole)];
+
+const DISTRIBUTION_POINTS: [Field; 1] = [("", Stands::Each, Part::DistributionPoint)];
+
+const DISTRIBUTION_POINT: [Field; 3] = [
+    (
+        "distributionPoint",
+        Stands::Context(0),
+        Part::DistributionPointName,
+    ),
+    ("reasons", Stands::Context(1), Part::Whole),
+    ("cRLIssuer", Stands::Context(2), Part::GeneralNames),
+];
+
+const DISTRIBUTION_POINT_NAME: [Field; 2] = [
+    ("fullName", Stands::Context(0), Part::GeneralNames),
+    (
+        "nameRelativeToCRLIssuer",
+        Stands::Context(1),
+        Part::RelativeName,
+    ),
+];
+
+const ISSUING_DISTRIBUTION_POINT: [Field; 6] = [
+    (
+        "distributionPoint",
+        Stands::Context(0),
+        Part::DistributionPointName,
+    ),
+    ("onlyContainsUserCerts", Stands::Context(1), Part::Whole),
+    ("onlyContainsCACerts", Stands::Context(2), Part::Whole),
+    ("onlySomeReasons", Stands::Context(3), Part::Whole),
+    ("indirectCRL", Stands::Context(4), Part::Whole),
+    (
+        "onlyContainsAttributeCerts",
+        Stands::Context(5),
+        Part::Whole,
+    ),
+];
+
+const ACCESSES: [Field; 1] = [("", Stands::Each, Part::Access)];
+
+const ACCESS: [Field; 2] = [
+    ("accessMethod", Stands::Always, Part::Whole),
+    ("accessLocation", Stands::Always, Part::GeneralName),
+];
 
 /// The fields of a part, in their order; none where it is not taken apart.
 pub(crate) fn fields(part: Part) -> &'static [Field]
@@ -178,9 +398,13 @@ pub(crate) fn fields(part: Part) -> &'static [Field]
         Part::NameAttribute => &NAME_ATTRIBUTE,
         Part::Validity => &VALIDITY,
         Part::KeyInfo => &KEY_INFO,
+        Part::KeyAlgorithm => &KEY_ALGORITHM,
+        Part::RsaKeyBits => &RSA_KEY_BITS,
+        Part::RsaKey => &RSA_KEY,
         Part::TaggedExtensions => &TAGGED_EXTENSIONS,
         Part::Extensions => &EXTENSIONS,
         Part::Extension => &EXTENSION,
+        Part::Value(value) => value_fields(value),
         Part::List => &LIST,
         Part::TbsList => &TBS_LIST,
         Part::Revoked => &REVOKED,
@@ -190,6 +414,41 @@ pub(crate) fn fields(part: Part) -> &'static [Field]
         Part::Attributes => &ATTRIBUTES,
         Part::Attribute => &ATTRIBUTE,
         Part::Values => &VALUES,
-        Part::Whole => &[],
+        Part::RequestedExtensions => &REQUESTED_EXTENSIONS,
+        Part::GeneralNames => &GENERAL_NAMES,
+        Part::OtherName => &OTHER_NAME,
+        Part::TaggedName => &TAGGED_NAME,
+        Part::EdiPartyName => &EDI_PARTY_NAME,
+        Part::AuthorityKeyIdentifier => &AUTHORITY_KEY_IDENTIFIER,
+        Part::Policies => &POLICIES,
+        Part::Policy => &POLICY,
+        Part::Qualifiers => &QUALIFIERS,
+        Part::Qualifier => &QUALIFIER,
+        Part::UserNotice => &USER_NOTICE,
+        Part::NoticeReference => &NOTICE_REFERENCE,
+        Part::NoticeNumbers => &NOTICE_NUMBERS,
+        Part::PolicyMappings => &POLICY_MAPPINGS,
+        Part::PolicyMapping => &POLICY_MAPPING,
+        Part::BasicConstraints => &BASIC_CONSTRAINTS,
+        Part::NameConstraints => &NAME_CONSTRAINTS,
+        Part::Subtrees => &SUBTREES,
+        Part::Subtree => &SUBTREE,
+        Part::PolicyConstraints => &POLICY_CONSTRAINTS,
+        Part::Purposes => &PURPOSES,
+        Part::DistributionPoints => &DISTRIBUTION_POINTS,
+        Part::DistributionPoint => &DISTRIBUTION_POINT,
+        Part::DistributionPointName => &DISTRIBUTION_POINT_NAME,
+        Part::IssuingDistributionPoint => &ISSUING_DISTRIBUTION_POINT,
+        Part::Accesses => &ACCESSES,
+        Part::Access => &ACCESS,
+        Part::Serial
+        | Part::Critical
+        | Part::ExtensionId
+        | Part::AttributeType
+        | Part::GeneralName
+        | Part::QualifierId
+        | Part::Told
+        | Part::Whole
+        | Part::Unknown => &[],
     }
 }

@@ -1,35 +1,53 @@
 //! The path of names to an octet.
 
 ghost use Rattle.std.specs.Prelude.{◌≡◌, [], MatchResult, OnOk, string_bytes, true, ⊤};
-ghost use Rattle.x509_paths.specs.Paths.{deepest, member_of, path, stepped};
+ghost use Rattle.x509_paths.specs.Cursors.{called_of};
+ghost use Rattle.x509_paths.specs.Paths.{deepest, dotted, named, numbered, path};
 
-use crate::field::is_each;
-use crate::member::{Member, member_at};
+use crate::cursor::Called;
+use crate::member::member_at;
 use crate::part::Part;
 use std::alloc::{AllocError, Global};
 
 /// How many members a path has at most.
 const DEEPEST: usize = 16;
 
-/// Writes the name of a member behind that of its structure, or its number where it has no name.
-fn put_step(alloc: Global, text: &mut String, member: &Member<'_>) -> Result<(), AllocError>
-    ensures { OnOk result (string_bytes text.new ≡ stepped (string_bytes text.old) (member_of member.now)) }
+/// Adds a name behind a point; nothing where there is no name.
+fn put_name(text: &mut String, name: &str) -> Result<(), AllocError>
+    ensures { OnOk result (string_bytes text.new ≡ dotted (string_bytes text.old) name.now) }
 {
-    let (name, stands, _) = member.field;
-    if is_each(stands) {
-        let number = member.number;
-        let shown = format!(in alloc; "[{number}]")?;
-        return text.push_str(shown.as_str());
+    if name.is_empty() {
+        return Ok(());
     }
-    if !text.is_empty() && !name.is_empty() {
+    if !text.is_empty() {
         text.push_str(".")?;
     }
     text.push_str(name)
 }
 
+/// Adds the number of a member of a list.
+fn put_number(text: &mut String, number: Option<usize>) -> Result<(), AllocError>
+    ensures { OnOk result (string_bytes text.new ≡ numbered (string_bytes text.old) number) }
+{
+    match number {
+        Some(number) => write!(text, "[{number}]"),
+        None => Ok(()),
+    }
+}
+
+/// Adds what a member is called.
+fn put_called(text: &mut String, called: &Called) -> Result<(), AllocError>
+    ensures { OnOk result (string_bytes text.new ≡ named (string_bytes text.old) (called_of called.now)) }
+{
+    put_name(text, called.name)?;
+    put_number(text, called.number)?;
+    put_name(text, called.alternative)
+}
+
 /// The names that lead to an octet, from 0, of the object of this kind at the front of the octets, as
 /// `tbsCertificate.extensions[3].extnValue`: those of the innermost member that has the octet in its header or in its contents, and of all
-/// around it. Members of a list have numbers from 0. Empty where the octet lies in no member of the object.
+/// around it. Members of a list have numbers from 0, alternatives of a choice their own name behind that. What an extension's value is its
+/// identifier tells, and so of keys, of requested extensions and of notices. Empty where the octet lies in no member of the object.
 ///
 /// # Errors
 ///
@@ -50,8 +68,8 @@ pub fn path_to(
         let Some(found) = member_at(part, window, at) else {
             break;
         };
-        put_step(alloc, &mut text, &found)?;
-        part = found.field.2;
+        put_called(&mut text, &found.called)?;
+        part = found.called.part;
         window = found.window;
         at = found.at;
     }

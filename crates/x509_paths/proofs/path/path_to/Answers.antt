@@ -11,7 +11,7 @@ loop-preserved c =
     let it = c.loop in
     let left : deepest - it.counter ≡ suc (deepest - (it.counter + 1)) = omega (arith, c.loop-test.true) in
     let m = member_of c.in-Some.found in
-    ap (λ text. path (deepest - (it.counter + 1)) m.field.part m.window m.at text) c.in_ok-put_step.ensures
+    ap (λ text. path (deepest - (it.counter + 1)) m.called.part m.window m.at text) c.in_ok-put_called.ensures
     ∙ sym (path_leads (deepest - (it.counter + 1)) it.part it.window.now it.at (string_bytes it.text) m c.in-Some.ensures)
     ∙ ap (λ n. path n it.part it.window.now it.at (string_bytes it.text)) (sym left)
     ∙ it.invariant

@@ -1,0 +1,115 @@
+-- How a part stands at the front of some octets: as the marks of its grammar say.
+use Rattle.std.specs.Prelude.{ℕ, List, [], ◌∷◌, Bool, true, false, Ok, Err, if◌then◌else◌}
+use Rattle.x509_der.specs.declared.error.Err.{Err as Refusal}
+use Rattle.x509_der.specs.Plan.{Plan, Outcome}
+use Rattle.x509_der.specs.Leaves.{any, bool_loose}
+use Rattle.x509_fields.specs.declared.error.X509Error.{X509Error}
+use Rattle.x509_fields.specs.Algorithm.{algorithm}
+use Rattle.x509_fields.specs.Serial.{serial}
+use Rattle.x509_names.specs.Names.{name, relative_name, attribute as name_attribute}
+use Rattle.x509_keys.specs.KeyInfo.{key_info}
+use Rattle.x509_extensions.specs.Extension.{Extension, extension}
+use Rattle.x509_extensions.specs.ExtensionList.{extensions}
+use Rattle.x509_extensions.specs.Parsed.{value_marks}
+use Rattle.x509_certs.specs.Certificate.{certificate}
+use Rattle.x509_certs.specs.TbsCertificate.{tbs}
+use Rattle.x509_certs.specs.Validity.{validity}
+use Rattle.x509_lists.specs.CertificateList.{certificate_list}
+use Rattle.x509_lists.specs.TbsCertList.{tbs_list}
+use Rattle.x509_lists.specs.RevokedList.{revoked_list}
+use Rattle.x509_lists.specs.RevokedCertificate.{revoked}
+use Rattle.x509_requests.specs.Request.{certification_request}
+use Rattle.x509_requests.specs.RequestInfo.{request_info}
+use Rattle.x509_requests.specs.CriAttribute.{attribute as request_attribute}
+use Rattle.x509_general_names.specs.DistributionPointName.{distribution_point_name}
+use Rattle.x509_general_names.specs.DistributionPoints.{crl_distribution_point}
+use Rattle.x509_general_names.specs.GeneralName.{general_name}
+use Rattle.x509_general_names.specs.InformationAccess.{access_description}
+use Rattle.x509_general_names.specs.NameConstraints.{general_subtree}
+use Rattle.x509_values.specs.Policies.{policy, policy_qualifier}
+use Rattle.x509_values.specs.PolicyMapping.{policy_mapping}
+use Rattle.x509_paths.specs.Cursors.{Called}
+use Rattle.x509_paths.specs.declared.part.Part.{Part}
+use Rattle.x509_paths.specs.declared.part.Part.TheVariants as parts
+use Rattle.x509_findings.specs.declared.judged.Judged.{Judged}
+use Rattle.x509_findings.specs.declared.judged.Judged.TheVariants.{Absent, Plain, Lenient, Unjudged}
+
+-- what is taken stands plainly, or by a lenient rule at least
+abbrev pub marked : Bool → Judged
+marked true = Plain
+marked false = Lenient
+
+abbrev pub judged_with : {F A : Type 0} → Outcome F A → Bool → Judged
+judged_with (Ok x) plain = marked plain
+judged_with (Err r) plain = Absent
+
+-- by the grammar of a structure, which takes the octets or refuses them, and by its mark
+abbrev pub judged_by : {F A : Type 0} → Plan F A → List ℕ → Judged
+judged_by p place = judged_with (p.read place) (p.marks place)
+
+-- the value of an extension that was read (RFC 5280, 4.2)
+abbrev pub value_judged : Outcome (Refusal X509Error) Extension → Judged
+value_judged (Ok x) = marked (value_marks x.1.oid x.1.value)
+value_judged (Err r) = Absent
+
+-- a part that is looked at from outside alone: its members, where it has any, aren't read
+abbrev pub is_leaf : Part → Bool
+is_leaf parts.Serial = true
+is_leaf parts.Critical = true
+is_leaf parts.ExtensionId = true
+is_leaf parts.AttributeType = true
+is_leaf parts.Values = true
+is_leaf parts.QualifierId = true
+is_leaf parts.UserNotice = true
+is_leaf parts.NoticeReference = true
+is_leaf parts.NoticeNumbers = true
+is_leaf parts.RsaKeyBits = true
+is_leaf parts.RsaKey = true
+is_leaf parts.GeneralName = true
+is_leaf parts.OtherName = true
+is_leaf parts.EdiPartyName = true
+is_leaf parts.Told = true
+is_leaf parts.Whole = true
+is_leaf _ = false
+
+-- A part at the front of a place; of an extension's value, that of the extension at the front of the octets around it. Of what is looked at
+-- from outside an element stands there; what else has no grammar of its own here isn't judged; and what is no field stands as nothing.
+abbrev pub part_judged : Part → List ℕ → List ℕ → Judged
+part_judged parts.Certificate around place = judged_by (certificate true) place
+part_judged parts.TbsCertificate around place = judged_by (tbs true) place
+part_judged parts.Serial around place = judged_by serial place
+part_judged parts.Algorithm around place = judged_by algorithm place
+part_judged parts.KeyAlgorithm around place = judged_by algorithm place
+part_judged parts.Name around place = judged_by name place
+part_judged parts.RelativeName around place = judged_by relative_name place
+part_judged parts.NameAttribute around place = judged_by name_attribute place
+part_judged parts.Validity around place = judged_by validity place
+part_judged parts.KeyInfo around place = judged_by key_info place
+part_judged parts.Extensions around place = judged_by (extensions true) place
+part_judged parts.Extension around place = judged_by (extension true) place
+part_judged parts.Critical around place = judged_by bool_loose place
+part_judged (parts.Value value) around place = value_judged ((extension false).read around)
+part_judged parts.Policy around place = judged_by policy place
+part_judged parts.Qualifier around place = judged_by policy_qualifier place
+part_judged parts.PolicyMapping around place = judged_by policy_mapping place
+part_judged parts.Subtree around place = judged_by general_subtree place
+part_judged parts.DistributionPoint around place = judged_by crl_distribution_point place
+part_judged parts.DistributionPointName around place = judged_by distribution_point_name place
+part_judged parts.Access around place = judged_by access_description place
+part_judged parts.List around place = judged_by certificate_list place
+part_judged parts.TbsList around place = judged_by tbs_list place
+part_judged parts.Revoked around place = judged_by revoked_list place
+part_judged parts.Entry around place = judged_by revoked place
+part_judged parts.Request around place = judged_by certification_request place
+part_judged parts.RequestInfo around place = judged_by request_info place
+part_judged parts.Attribute around place = judged_by request_attribute place
+part_judged parts.Unknown around place = Absent
+part_judged part around place = if is_leaf part then judged_by any place else Unjudged
+
+-- an alternative of a choice is a GeneralName (RFC 5280, 4.2.1.6)
+abbrev pub judged_as : List ℕ → Part → List ℕ → List ℕ → Judged
+judged_as [] part around place = part_judged part around place
+judged_as (c ∷ cs) part around place = judged_by general_name place
+
+abbrev pub judged : Called → List ℕ → List ℕ → Judged
+judged c around place = judged_as c.alternative c.part around place

@@ -1,0 +1,138 @@
+-- The lenient rules that an object uses: where it stands plainly none, else those of its parts in the order of their octets.
+use Rattle.std.specs.Prelude.{ℕ, zero, suc, ◌+◌, ◌-◌, ◌==◌, ◌&&◌, is_ok, Bool, true, false, List, [], ◌∷◌, ◌++◌, length, drop, Option, Some, None, if◌then◌else◌}
+use Rattle.x509_der.specs.declared.header.Header.{Header}
+use Rattle.x509_der.specs.Primitives.{is_constructed, is_context}
+use Rattle.x509_der.specs.Reading.{header_at, strict}
+use Rattle.x509_paths.specs.declared.part.Part.{Part}
+use Rattle.x509_paths.specs.declared.part.Part.TheVariants as parts
+use Rattle.x509_paths.specs.Cursors.{Called, Standing, Step, first_of, stepped}
+use Rattle.x509_paths.specs.Seen.{Seen, seen}
+use Rattle.x509_paths.specs.Paths.{size_of}
+use Rattle.x509_findings.specs.declared.judged.Judged.{Judged}
+use Rattle.x509_findings.specs.declared.judged.Judged.TheVariants.{Absent, Plain, Lenient, Unjudged}
+use Rattle.x509_findings.specs.declared.leniency.Leniency.{Leniency}
+use Rattle.x509_findings.specs.declared.leniency.Leniency.TheVariants.{BytesBehind, Boolean, SerialNumber, Wrapper, LongLength, NoSet, UnreadName, Inside}
+use Rattle.x509_findings.specs.declared.leniency.LenientUse.{LenientUse}
+use Rattle.x509_findings.specs.Judgements.{is_leaf, judged, part_judged}
+
+-- a rule, and how many octets stand before the place at which it is used
+pub record Use : Type 0 where
+  pub at : ℕ
+  pub rule : Leniency
+
+abbrev pub use_of : LenientUse → Use
+use_of u = record { at = u.at; rule = u.rule }
+
+abbrev pub uses : Leniency → ℕ → Use
+uses rule at = record { at = at; rule = rule }
+
+-- ---- the rules of one element
+
+-- the wrappers that close a structure: their readers take all that is left of it, whatever their length says
+abbrev pub is_wrapper : Part → Bool
+is_wrapper parts.TaggedExtensions = true
+is_wrapper parts.Attributes = true
+is_wrapper _ = false
+
+-- the octets in which its members stand
+abbrev pub contents_of : Part → List ℕ → Seen → List ℕ
+contents_of part place s = if is_wrapper part then drop s.size place else if is_leaf part then [] else s.contents
+
+abbrev pub behind_of : Part → Seen → List ℕ
+behind_of part s = if is_wrapper part then [] else s.behind
+
+-- a constructed element of context class, which ends where its structure does
+abbrev pub closes : Header → ℕ → Bool
+closes h left = is_context h.class && (h.constructed && left == h.length)
+
+abbrev pub unless : Bool → Leniency → Option Leniency
+unless true rule = None
+unless false rule = Some rule
+
+-- the rule by which the element itself is taken, whatever stands in it
+abbrev pub own_rule : Part → List ℕ → Seen → Option Leniency
+own_rule parts.TaggedExtensions place s = unless (closes s.header (length place - s.size)) Wrapper
+own_rule parts.Attributes place s = unless (closes s.header (length place - s.size)) Wrapper
+own_rule parts.Attribute place s = unless (is_ok (header_at strict place)) LongLength
+own_rule parts.Values place s = unless (is_constructed 17 s.header) NoSet
+own_rule parts.RequestedExtensions place s = unless (is_constructed 17 s.header) NoSet
+own_rule _ place s = None
+
+-- the rule of what its reader takes by one, where none of its members uses any
+abbrev pub part_rule : Part → Leniency
+part_rule parts.Serial = SerialNumber
+part_rule parts.Critical = Boolean
+part_rule _ = Inside
+
+abbrev pub rule_as : List ℕ → Part → Leniency
+rule_as [] part = part_rule part
+rule_as (c ∷ cs) part = UnreadName
+
+abbrev pub rule_of : Called → Leniency
+rule_of c = rule_as c.alternative c.part
+
+abbrev pub or_own : Use → List Use → List Use
+or_own own [] = own ∷ []
+or_own own (u ∷ us) = u ∷ us
+
+-- of a part that stands so, where these are used inside, and this is its own
+abbrev pub told : Leniency → Judged → ℕ → List Use → List Use
+told rule Absent at within = []
+told rule Plain at within = []
+told rule Lenient at within = or_own (uses rule at) within
+told rule Unjudged at within = within
+
+-- ---- the members of an element
+
+-- what is read of a part at a place
+abbrev pub Look : Type 0
+Look = Called → Judged → ℕ → List ℕ → List Use
+
+-- what is read from one member on: what may come, where it stands, and the octets that are left
+abbrev pub More : Type 0
+More = Standing → ℕ → List ℕ → List Use
+
+-- behind the last member that can be read stand octets
+abbrev pub octets_behind : ℕ → List Use
+octets_behind at = uses BytesBehind at ∷ []
+
+abbrev pub member_judged : Look → More → Step → ℕ → List ℕ → Seen → Judged → List Use
+member_judged look more step at place s Absent = octets_behind at
+member_judged look more step at place s j = look step.0 j at place ++ more step.1 (at + size_of s) (behind_of step.0.part s)
+
+abbrev pub member_stepped : Look → More → List ℕ → ℕ → List ℕ → Seen → Step → List Use
+member_stepped look more around at place s step = member_judged look more step at place s (judged step.0 around place)
+
+abbrev pub member_seen : Look → More → Standing → List ℕ → ℕ → List ℕ → Option Seen → List Use
+member_seen look more standing around at place None = octets_behind at
+member_seen look more standing around at place (Some s) = member_stepped look more around at place s (stepped standing s.header s.contents)
+
+-- of so many members at most
+unfoldable pub members : Look → ℕ → Standing → List ℕ → ℕ → List ℕ → List Use
+members look zero standing around at place = []
+members look (suc n) standing around at [] = []
+members look (suc n) standing around at (b ∷ bs) = member_seen look (λ next. members look n next around) standing around at (b ∷ bs) (seen (b ∷ bs))
+
+-- ---- an element
+
+abbrev pub own_uses : Option Leniency → ℕ → List Use
+own_uses None at = []
+own_uses (Some rule) at = uses rule at ∷ []
+
+abbrev pub inside_seen : Look → Part → ℕ → List ℕ → Option Seen → List Use
+inside_seen look part at place None = []
+inside_seen look part at place (Some s) =
+    let contents = contents_of part place s in
+    own_uses (own_rule part place s) at ++ members look (length contents) (first_of part) place (at + s.size) contents
+
+-- the rules that are used inside the element at the front of a place, as deep as so many parts stand in one another
+unfoldable pub inside : ℕ → Part → ℕ → List ℕ → List Use
+inside zero part at place = []
+inside (suc n) part at place = inside_seen (λ c j a w. told (rule_of c) j a (inside n c.part a w)) part at place (seen place)
+
+abbrev pub deepest : ℕ
+deepest = 32
+
+-- of the object at the front of the octets
+abbrev pub leniencies : Part → List ℕ → List Use
+leniencies object octets = told (part_rule object) (part_judged object octets octets) 0 (inside deepest object 0 octets)

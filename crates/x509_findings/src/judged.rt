@@ -1,0 +1,195 @@
+//! How a part stands at the front of some octets.
+
+ghost use Rattle.std.specs.Prelude.{◌≡◌, MatchResult, ⊤};
+ghost use Rattle.x509_der.specs.Leaves.{any, bool_loose};
+ghost use Rattle.x509_fields.specs.Serial.{serial};
+ghost use Rattle.x509_extensions.specs.Extension.{extension};
+ghost use Rattle.x509_findings.specs.Judgements.{is_leaf, judged, judged_by, marked, part_judged, value_judged};
+ghost use Rattle.x509_paths.specs.Cursors.{called_of};
+
+use std::alloc::{AllocError, Global};
+use x509_certs::{TbsCertificate, Validity, X509Certificate};
+use x509_der::{BerError, FromDer, Place, ReadError, Reader, Tries, read_any};
+use x509_extensions::{ExtensionSequence, X509Extension, X509ExtensionParser};
+use x509_fields::{AlgorithmIdentifier, X509Error, serial_at};
+use x509_general_names::{
+    AccessDescription, CRLDistributionPoint, DistributionPointName, GeneralName, GeneralSubtree,
+};
+use x509_keys::SubjectPublicKeyInfo;
+use x509_lists::{CertificateRevocationList, RevokedCertificate, RevokedEntries, TbsCertList};
+use x509_names::{AttributeTypeAndValue, RelativeDistinguishedName, X509Name};
+use x509_paths::{Called, Part};
+use x509_requests::{X509CertificationRequest, X509CertificationRequestInfo, X509CriAttribute};
+use x509_values::{PolicyInformation, PolicyMapping, PolicyQualifierInfo};
+
+/// How a part stands at the front of some octets, by its reader.
+#[derive(Clone, Copy, Debug, PartialEq, Eq)]
+pub enum Judged {
+    /// It doesn't: its reader refuses them.
+    Absent,
+    /// By no lenient rule.
+    Plain,
+    /// By one at least.
+    Lenient,
+    /// It has no reader of its own: what stands in it tells.
+    Unjudged,
+}
+
+/// By whether its reader takes it plainly.
+fn marked(plain: bool) -> Judged
+    ensures { result ≡ marked plain }
+{
+    if plain {
+        Judged::Plain
+    } else {
+        Judged::Lenient
+    }
+}
+
+/// How a value of this type stands there.
+#[inline(never)]
+#[tactic(auto, using(crate::proofs::Judging::not_excused))]
+fn judge_as<'a, E: ReadError, T: FromDer<'a, E> + Drop>(
+    alloc: Global,
+    place: &'a [u8],
+) -> Result<Judged, AllocError>
+    ensures { MatchResult result (λ j. j ≡ judged_by T.plan place.now) (λ _. ⊤) }
+{
+    match T::read_marked(alloc, &mut Tries::new(), place) {
+        Ok((_, _value, plain)) => Ok(marked(plain)),
+        Err(refusal) if refusal.is_out_of_memory() => Err(AllocError),
+        Err(_) => Ok(Judged::Absent),
+    }
+}
+
+/// How a serial number stands there.
+fn judge_serial(place: &[u8]) -> Judged
+    ensures { result ≡ judged_by serial place.now }
+{
+    match serial_at(&Place::look(&mut Tries::new(), place)) {
+        Ok((_, plain)) => marked(plain),
+        Err(_) => Judged::Absent,
+    }
+}
+
+/// How a BOOLEAN stands there that is read by the basic rules.
+fn judge_boolean(place: &[u8]) -> Judged
+    ensures { result ≡ judged_by bool_loose place.now }
+{
+    match Place::look(&mut Tries::new(), place).bool_marked() {
+        Ok((_, plain)) => marked(plain),
+        Err(_) => Judged::Absent,
+    }
+}
+
+/// How an element stands there that isn't taken apart.
+#[tactic(auto, unfolding(x509_der::specs::Leaves::any))]
+fn judge_any(place: &[u8]) -> Judged
+    ensures { result ≡ judged_by any place.now }
+{
+    match read_any(&mut Tries::new(), place) {
+        Ok(_) => Judged::Plain,
+        Err(_) => Judged::Absent,
+    }
+}
+
+/// How the value stands of the extension that stands there.
+#[tactic(auto, using(crate::proofs::Judging::not_excused))]
+fn judge_value(alloc: Global, place: &[u8]) -> Result<Judged, AllocError>
+    ensures { MatchResult result (λ j. j ≡ value_judged ((extension false).read place.now)) (λ _. ⊤) }
+{
+    let parser = X509ExtensionParser::new().with_deep_parse_extensions(false);
+    match parser.read(alloc, &mut Tries::new(), place) {
+        Ok((_, extension)) => Ok(marked(extension.has_plain_value(alloc)?)),
+        Err(refusal) if refusal.is_out_of_memory() => Err(AllocError),
+        Err(_) => Ok(Judged::Absent),
+    }
+}
+
+/// Whether a part is looked at from outside alone: its members, where it has any, aren't read.
+pub(crate) fn is_leaf(part: Part) -> bool
+    ensures { result ≡ is_leaf part }
+{
+    matches!(
+        part,
+        Part::Serial
+            | Part::Critical
+            | Part::ExtensionId
+            | Part::AttributeType
+            | Part::Values
+            | Part::QualifierId
+            | Part::UserNotice
+            | Part::NoticeReference
+            | Part::NoticeNumbers
+            | Part::RsaKeyBits
+            | Part::RsaKey
+            | Part::GeneralName
+            | Part::OtherName
+            | Part::EdiPartyName
+            | Part::Told
+            | Part::Whole
+    )
+}
+
+/// How a part stands at the front of a place in the element at the front of the octets around it.
+pub(crate) fn judge_part(
+    alloc: Global,
+    part: Part,
+    around: &[u8],
+    place: &[u8],
+) -> Result<Judged, AllocError>
+    ensures { MatchResult result (λ j. j ≡ part_judged part around.now place.now) (λ _. ⊤) }
+{
+    match part {
+        Part::Certificate => judge_as::<X509Error, X509Certificate<'_>>(alloc, place),
+        Part::TbsCertificate => judge_as::<X509Error, TbsCertificate<'_>>(alloc, place),
+        Part::Serial => Ok(judge_serial(place)),
+        Part::Algorithm | Part::KeyAlgorithm => judge_as::<X509Error, AlgorithmIdentifier<'_>>(
+            alloc, place,
+        ),
+        Part::Name => judge_as::<X509Error, X509Name<'_>>(alloc, place),
+        Part::RelativeName => judge_as::<X509Error, RelativeDistinguishedName<'_>>(alloc, place),
+        Part::NameAttribute => judge_as::<X509Error, AttributeTypeAndValue<'_>>(alloc, place),
+        Part::Validity => judge_as::<X509Error, Validity>(alloc, place),
+        Part::KeyInfo => judge_as::<X509Error, SubjectPublicKeyInfo<'_>>(alloc, place),
+        Part::Extensions => judge_as::<X509Error, ExtensionSequence<'_>>(alloc, place),
+        Part::Extension => judge_as::<X509Error, X509Extension<'_>>(alloc, place),
+        Part::Critical => Ok(judge_boolean(place)),
+        Part::Value(_) => judge_value(alloc, around),
+        Part::Policy => judge_as::<BerError, PolicyInformation<'_>>(alloc, place),
+        Part::Qualifier => judge_as::<BerError, PolicyQualifierInfo<'_>>(alloc, place),
+        Part::PolicyMapping => judge_as::<BerError, PolicyMapping<'_>>(alloc, place),
+        Part::Subtree => judge_as::<X509Error, GeneralSubtree<'_>>(alloc, place),
+        Part::DistributionPoint => judge_as::<X509Error, CRLDistributionPoint<'_>>(alloc, place),
+        Part::DistributionPointName => judge_as::<X509Error, DistributionPointName<'_>>(
+            alloc, place,
+        ),
+        Part::Access => judge_as::<X509Error, AccessDescription<'_>>(alloc, place),
+        Part::List => judge_as::<X509Error, CertificateRevocationList<'_>>(alloc, place),
+        Part::TbsList => judge_as::<X509Error, TbsCertList<'_>>(alloc, place),
+        Part::Revoked => judge_as::<X509Error, RevokedEntries<'_>>(alloc, place),
+        Part::Entry => judge_as::<X509Error, RevokedCertificate<'_>>(alloc, place),
+        Part::Request => judge_as::<X509Error, X509CertificationRequest<'_>>(alloc, place),
+        Part::RequestInfo => judge_as::<X509Error, X509CertificationRequestInfo<'_>>(alloc, place),
+        Part::Attribute => judge_as::<X509Error, X509CriAttribute<'_>>(alloc, place),
+        Part::Unknown => Ok(Judged::Absent),
+        _ if is_leaf(part) => Ok(judge_any(place)),
+        _ => Ok(Judged::Unjudged),
+    }
+}
+
+/// How what is called so stands at the front of a place in the element at the front of the octets around it.
+pub(crate) fn judge(
+    alloc: Global,
+    called: &Called,
+    around: &[u8],
+    place: &[u8],
+) -> Result<Judged, AllocError>
+    ensures { MatchResult result (λ j. j ≡ judged (called_of called.now) around.now place.now) (λ _. ⊤) }
+{
+    if called.alternative.is_empty() {
+        judge_part(alloc, called.part, around, place)
+    } else {
+        judge_as::<X509Error, GeneralName<'_>>(alloc, place)
+    }
+}

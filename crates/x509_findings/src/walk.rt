@@ -1,0 +1,212 @@
+//! The walk down the parts of an object that don't stand plainly.
+
+ghost use Rattle.std.specs.Prelude.{◌≡◌, ◌+◌, ◌++◌, ◌<◌, ◌≤◌, ◌^◌, ℕ, List, MatchResult, OnOk, ⊤, length, map};
+ghost use Rattle.x509_paths.specs.Cursors.{called_of};
+ghost use Rattle.x509_paths.specs.Seen.{seen_of};
+ghost use Rattle.x509_findings.specs.Uses.{behind_of, contents_of, deepest, inside, is_wrapper, leniencies, own_rule, part_rule, rule_of, told, use_of};
+
+use crate::judged::{Judged, is_leaf, judge, judge_part};
+use crate::leniency::{Leniency, LenientUse};
+use std::alloc::{AllocError, Global};
+use x509_der::{Class, Tries, read_header};
+use x509_paths::{Called, Cursor, Part, Seen, see};
+
+/// How many parts of an object stand in one another at most.
+const DEEPEST: usize = 32;
+
+/// Whether a part is a wrapper whose reader takes all octets that are left of its structure, whatever its length says.
+fn is_wrapper(part: Part) -> bool
+    ensures { result ≡ is_wrapper part }
+{
+    matches!(part, Part::TaggedExtensions | Part::Attributes)
+}
+
+/// The octets in which the members of a part stand.
+fn contents_of<'a>(part: Part, place: &'a [u8], seen: &Seen<'a>) -> &'a [u8]
+    requires { seen.now.size ≤ length place.now }
+    ensures { result.now ≡ contents_of part place.now (seen_of seen.now) }
+{
+    if is_wrapper(part) {
+        &place[seen.size..]
+    } else if is_leaf(part) {
+        &[]
+    } else {
+        seen.contents
+    }
+}
+
+/// What stands behind a part.
+fn behind_of<'a>(part: Part, seen: &Seen<'a>) -> &'a [u8]
+    ensures { result.now ≡ behind_of part (seen_of seen.now) }
+{
+    if is_wrapper(part) { &[] } else { seen.behind }
+}
+
+/// The lenient rule by which the element itself is taken as this part, whatever stands in it.
+fn own_rule(part: Part, place: &[u8], seen: &Seen<'_>) -> Option<Leniency>
+    ensures { result ≡ own_rule part place.now (seen_of seen.now) }
+{
+    let header = &seen.header;
+    match part {
+        Part::TaggedExtensions | Part::Attributes => {
+            if matches!(header.class, Class::ContextSpecific)
+                && header.constructed
+                && place.len() - seen.size == header.length as usize
+            {
+                None
+            } else {
+                Some(Leniency::Wrapper)
+            }
+        }
+        Part::Attribute => {
+            if read_header(&mut Tries::new(), place).is_ok() {
+                None
+            } else {
+                Some(Leniency::LongLength)
+            }
+        }
+        Part::Values | Part::RequestedExtensions => {
+            if matches!(header.class, Class::Universal)
+                && header.constructed
+                && header.tag.0 == 17
+            {
+                None
+            } else {
+                Some(Leniency::NoSet)
+            }
+        }
+        _ => None,
+    }
+}
+
+/// The rule of a part that its reader takes by one, where no rule is told of what stands in it.
+fn part_rule(part: Part) -> Leniency
+    ensures { result ≡ part_rule part }
+{
+    match part {
+        Part::Serial => Leniency::SerialNumber,
+        Part::Critical => Leniency::Boolean,
+        _ => Leniency::Inside,
+    }
+}
+
+/// The same of what is called so.
+fn rule_of(called: &Called) -> Leniency
+    ensures { result ≡ rule_of (called_of called.now) }
+{
+    if called.alternative.is_empty() {
+        part_rule(called.part)
+    } else {
+        Leniency::UnreadName
+    }
+}
+
+/// Puts the rules behind those found so far that are used inside the element at the front of a place, which is this part and stands behind
+/// so many octets of the object: as deep as so many parts that stand in one another.
+#[cycle(walking)]
+fn look_inside(
+    alloc: Global,
+    depth: usize,
+    part: Part,
+    at: usize,
+    place: &[u8],
+    uses: &mut Vec<LenientUse>,
+) -> Result<(), AllocError>
+    requires { at + length place.now < 2 ^ 64 }
+    ensures { OnOk result (map use_of uses.new.items ≡ map use_of uses.old.items ++ inside depth part at place.now) }
+{
+    if depth == 0 {
+        return Ok(());
+    }
+    let Some(element) = see(place) else {
+        return Ok(());
+    };
+    if let Some(rule) = own_rule(part, place, &element) {
+        uses.push(LenientUse { at, rule })?;
+    }
+    let mut cursor = Cursor::of(part);
+    let mut left = contents_of(part, place, &element);
+    let mut next = at + element.size;
+    for _ in 0..left.len() {
+        if left.is_empty() {
+            break;
+        }
+        let Some(member) = see(left) else {
+            uses.push(LenientUse {
+                at: next,
+                rule: Leniency::BytesBehind,
+            })?;
+            return Ok(());
+        };
+        let (called, behind) = cursor.step(&member.header, member.contents);
+        let judged = judge(alloc, &called, place, left)?;
+        if judged == Judged::Absent {
+            uses.push(LenientUse {
+                at: next,
+                rule: Leniency::BytesBehind,
+            })?;
+            return Ok(());
+        }
+        let rule = rule_of(&called);
+        tell(
+            alloc,
+            depth - 1,
+            called.part,
+            rule,
+            judged,
+            next,
+            left,
+            uses,
+        )?;
+        cursor = behind;
+        next += member.size + member.contents.len();
+        left = behind_of(called.part, &member);
+    }
+    Ok(())
+}
+
+/// Puts the rules there that a part uses which stands so, its own where no rule is told of what stands in it.
+#[cycle(walking)]
+fn tell(
+    alloc: Global,
+    depth: usize,
+    part: Part,
+    rule: Leniency,
+    judged: Judged,
+    at: usize,
+    place: &[u8],
+    uses: &mut Vec<LenientUse>,
+) -> Result<(), AllocError>
+    requires { at + length place.now < 2 ^ 64 }
+    ensures { OnOk result (map use_of uses.new.items ≡ map use_of uses.old.items ++ told rule judged at (inside depth part at place.now)) }
+{
+    match judged {
+        Judged::Absent | Judged::Plain => Ok(()),
+        Judged::Unjudged => look_inside(alloc, depth, part, at, place, uses),
+        Judged::Lenient => {
+            let before = uses.len();
+            look_inside(alloc, depth, part, at, place, uses)?;
+            if uses.len() > before {
+                return Ok(());
+            }
+            uses.push(LenientUse { at, rule })?;
+            Ok(())
+        }
+    }
+}
+
+/// The lenient rules that the object of this kind at the front of the octets uses, in the order of its octets, each with its octet; none
+/// exactly where its reader takes it plainly, as a strict reader does, and where it takes none.
+///
+/// # Errors
+///
+/// `AllocError`.
+pub fn leniencies(alloc: Global, object: Part, octets: &[u8]) -> Result<Vec<LenientUse>, AllocError>
+    ensures { MatchResult result (λ uses. map use_of uses.items ≡ leniencies object octets.now) (λ _. ⊤) }
+{
+    let mut uses = Vec::new(alloc);
+    let judged = judge_part(alloc, object, octets, octets)?;
+    let rule = part_rule(object);
+    tell(alloc, DEEPEST, object, rule, judged, 0, octets, &mut uses)?;
+    Ok(uses)
+}
