@@ -1,9 +1,9 @@
 -- What was found so far and what is used from here on is all that is used in the element.
 use Rattle.std.proofs.Common.{◌≡◌, ◌+◌, ◌-◌, ◌*◌, ◌++◌, ◌≤◌, length, map}
 use Rattle.x509_paths.specs.Cursors.{standing_of}
-use Rattle.x509_findings.specs.Uses.{inside, members, use_of}
-use Rattle.x509_findings.proofs.Using.{within}
-use Rattle.x509_findings.proofs.walk.+walking.Given as goal
+use Rattle.x509_leniencies.specs.Uses.{inside, members, use_of}
+use Rattle.x509_leniencies.proofs.Using.{within}
+use Rattle.x509_leniencies.proofs.walk.+walking.Given as goal
 
 abbrev pub decreases-look_inside : goal.decreases-look_inside
 decreases-look_inside l = l.depth * 2

@@ -4,10 +4,10 @@ use Rattle.x509_paths.specs.declared.part.Part.{Part}
 use Rattle.x509_paths.specs.Cursors.{Standing, Step, first_of, stepped}
 use Rattle.x509_paths.specs.Seen.{Seen, seen}
 use Rattle.x509_paths.specs.Paths.{size_of}
-use Rattle.x509_findings.specs.declared.judged.Judged.{Judged}
-use Rattle.x509_findings.specs.declared.judged.Judged.TheVariants.{Absent, Plain, Lenient, Unjudged}
-use Rattle.x509_findings.specs.Judgements.{judged}
-use Rattle.x509_findings.specs.Uses.{Look, Use, behind_of, contents_of, inside, inside_seen, member_judged, member_seen, member_stepped, members, octets_behind, own_rule, own_uses, rule_of, told, uses}
+use Rattle.x509_leniencies.specs.declared.judged.Judged.{Judged}
+use Rattle.x509_leniencies.specs.declared.judged.Judged.TheVariants.{Absent, Plain, Lenient, Unjudged}
+use Rattle.x509_leniencies.specs.Judgements.{judged}
+use Rattle.x509_leniencies.specs.Uses.{Look, Use, behind_of, contents_of, inside, inside_seen, member_judged, member_seen, member_stepped, members, octets_behind, own_rule, own_uses, rule_of, told, uses}
 
 -- what is looked at in an element that may be so deep
 abbrev pub within : ℕ → Look

@@ -4,7 +4,7 @@ ghost use Rattle.std.specs.Prelude.{◌≡◌, MatchResult, ⊤};
 ghost use Rattle.x509_der.specs.Leaves.{any, bool_loose};
 ghost use Rattle.x509_fields.specs.Serial.{serial};
 ghost use Rattle.x509_extensions.specs.Extension.{extension};
-ghost use Rattle.x509_findings.specs.Judgements.{is_leaf, judged, judged_by, marked, part_judged, value_judged};
+ghost use Rattle.x509_leniencies.specs.Judgements.{is_leaf, judged, judged_by, marked, part_judged, value_judged};
 ghost use Rattle.x509_paths.specs.Cursors.{called_of};
 
 use std::alloc::{AllocError, Global};
@@ -24,7 +24,7 @@ use x509_values::{PolicyInformation, PolicyMapping, PolicyQualifierInfo};
 
 /// How a part stands at the front of some octets, by its reader.
 #[derive(Clone, Copy, Debug, PartialEq, Eq)]
-pub enum Judged {
+pub(crate) enum Judged {
     /// It doesn't: its reader refuses them.
     Absent,
     /// By no lenient rule.
@@ -172,6 +172,7 @@ pub(crate) fn judge_part(
         Part::Request => judge_as::<X509Error, X509CertificationRequest<'_>>(alloc, place),
         Part::RequestInfo => judge_as::<X509Error, X509CertificationRequestInfo<'_>>(alloc, place),
         Part::Attribute => judge_as::<X509Error, X509CriAttribute<'_>>(alloc, place),
+        Part::Values => Ok(Judged::Unjudged),
         Part::Unknown => Ok(Judged::Absent),
         _ if is_leaf(part) => Ok(judge_any(place)),
         _ => Ok(Judged::Unjudged),

@@ -8,12 +8,12 @@ use Rattle.x509_paths.specs.declared.part.Part.TheVariants as parts
 use Rattle.x509_paths.specs.Cursors.{Called, Standing, Step, first_of, stepped}
 use Rattle.x509_paths.specs.Seen.{Seen, seen}
 use Rattle.x509_paths.specs.Paths.{size_of}
-use Rattle.x509_findings.specs.declared.judged.Judged.{Judged}
-use Rattle.x509_findings.specs.declared.judged.Judged.TheVariants.{Absent, Plain, Lenient, Unjudged}
-use Rattle.x509_findings.specs.declared.leniency.Leniency.{Leniency}
-use Rattle.x509_findings.specs.declared.leniency.Leniency.TheVariants.{BytesBehind, Boolean, SerialNumber, Wrapper, LongLength, NoSet, UnreadName, Inside}
-use Rattle.x509_findings.specs.declared.leniency.LenientUse.{LenientUse}
-use Rattle.x509_findings.specs.Judgements.{is_leaf, judged, part_judged}
+use Rattle.x509_leniencies.specs.declared.judged.Judged.{Judged}
+use Rattle.x509_leniencies.specs.declared.judged.Judged.TheVariants.{Absent, Plain, Lenient, Unjudged}
+use Rattle.x509_leniencies.specs.declared.leniency.Leniency.{Leniency}
+use Rattle.x509_leniencies.specs.declared.leniency.Leniency.TheVariants.{BytesBehind, Boolean, SerialNumber, Wrapper, LongLength, NoSet, UnreadName, Inside}
+use Rattle.x509_leniencies.specs.declared.leniency.LenientUse.{LenientUse}
+use Rattle.x509_leniencies.specs.Judgements.{is_leaf, judged, part_judged}
 
 -- a rule, and how many octets stand before the place at which it is used
 pub record Use : Type 0 where

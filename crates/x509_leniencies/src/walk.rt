@@ -3,7 +3,7 @@
 ghost use Rattle.std.specs.Prelude.{◌≡◌, ◌+◌, ◌++◌, ◌<◌, ◌≤◌, ◌^◌, ℕ, List, MatchResult, OnOk, ⊤, length, map};
 ghost use Rattle.x509_paths.specs.Cursors.{called_of};
 ghost use Rattle.x509_paths.specs.Seen.{seen_of};
-ghost use Rattle.x509_findings.specs.Uses.{behind_of, contents_of, deepest, inside, is_wrapper, leniencies, own_rule, part_rule, rule_of, told, use_of};
+ghost use Rattle.x509_leniencies.specs.Uses.{behind_of, contents_of, deepest, inside, is_wrapper, leniencies, own_rule, part_rule, rule_of, told, use_of};
 
 use crate::judged::{Judged, is_leaf, judge, judge_part};
 use crate::leniency::{Leniency, LenientUse};

@@ -31,8 +31,8 @@ use Rattle.x509_values.specs.PolicyMapping.{policy_mapping}
 use Rattle.x509_paths.specs.Cursors.{Called}
 use Rattle.x509_paths.specs.declared.part.Part.{Part}
 use Rattle.x509_paths.specs.declared.part.Part.TheVariants as parts
-use Rattle.x509_findings.specs.declared.judged.Judged.{Judged}
-use Rattle.x509_findings.specs.declared.judged.Judged.TheVariants.{Absent, Plain, Lenient, Unjudged}
+use Rattle.x509_leniencies.specs.declared.judged.Judged.{Judged}
+use Rattle.x509_leniencies.specs.declared.judged.Judged.TheVariants.{Absent, Plain, Lenient, Unjudged}
 
 -- what is taken stands plainly, or by a lenient rule at least
 abbrev pub marked : Bool → Judged
@@ -103,6 +103,7 @@ part_judged parts.Entry around place = judged_by revoked place
 part_judged parts.Request around place = judged_by certification_request place
 part_judged parts.RequestInfo around place = judged_by request_info place
 part_judged parts.Attribute around place = judged_by request_attribute place
+part_judged parts.Values around place = Unjudged
 part_judged parts.Unknown around place = Absent
 part_judged part around place = if is_leaf part then judged_by any place else Unjudged
 

@@ -6,6 +6,5 @@ mod judged;
 mod leniency;
 mod walk;
 
-pub use judged::Judged;
 pub use leniency::{Leniency, LenientUse};
 pub use walk::leniencies;
