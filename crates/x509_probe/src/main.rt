@@ -6,17 +6,10 @@
 #![tactic(auto)]
 
 mod answers;
-mod cert_visitor;
-mod cert_walks;
 mod change;
 mod check;
 mod lines;
-mod list_visitor;
-mod list_walks;
-mod promises;
-mod recorder;
 mod rows;
-mod validators;
 mod work;
 
 use change::{Changes, put_changes};

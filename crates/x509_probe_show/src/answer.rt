@@ -2,7 +2,7 @@
 
 use std::alloc::{AllocError, Global};
 use std::fmt;
-use x509_parser::der::{Err, HexPairs, ReadError};
+use x509_der::{Err, HexPairs, ReadError};
 
 /// The text of an answer. Where memory is refused, nothing is added behind it, so that who adds has no failure to look at.
 #[derive(Drop)]

@@ -2,15 +2,11 @@
 
 use crate::answer::Answer;
 use std::fmt;
-use x509_parser::der::{
+use x509_der::{
     Any, BitString, Class, Err, FromDer, Header, Integer, Oid, ReadError, Sequence, UnsignedBytes,
 };
-use x509_parser::error::X509Error;
-use x509_parser::time::ASN1Time;
-use x509_parser::x509::{
-    AlgorithmIdentifier, AttributeByOid, AttributeTypeAndValue, RelativeDistinguishedName,
-    X509Name, X509Version,
-};
+use x509_fields::{ASN1Time, AlgorithmIdentifier, X509Error, X509Version};
+use x509_names::{AttributeByOid, AttributeTypeAndValue, RelativeDistinguishedName, X509Name};
 
 /// What has such a text. How a value is let go comes with it: it is proved here, once for each type, so who owns a value
 /// does so in a function over any `T: Show`.
@@ -74,6 +70,16 @@ pub fn both<T: Show, U: Show, E: ReadError>(
             None
         }
     }
+}
+
+/// The same of two values that are read at the front of their bytes.
+pub fn read_both<'a, T: FromDer<'a, X509Error> + Show, U: FromDer<'a, X509Error> + Show>(
+    out: &mut Answer,
+    a: &'a [u8],
+    b: &'a [u8],
+) -> Option<(T, U)> {
+    let alloc = out.alloc();
+    both(out, T::from_der(alloc, a), U::from_der(alloc, b))
 }
 
 /// Bytes.

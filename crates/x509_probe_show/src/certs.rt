@@ -2,7 +2,7 @@
 
 use crate::answer::Answer;
 use crate::base::Show;
-use x509_parser::certificate::{TbsCertificate, UniqueIdentifier, Validity, X509Certificate};
+use x509_certs::{TbsCertificate, UniqueIdentifier, Validity, X509Certificate};
 
 impl Show for Validity {
     fn show(&self, out: &mut Answer) {

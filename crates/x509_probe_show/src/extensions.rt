@@ -2,8 +2,7 @@
 
 use crate::answer::Answer;
 use crate::base::Show;
-use x509_extensions::ExtensionSequence;
-use x509_parser::extensions::{ParsedExtension, X509Extension};
+use x509_extensions::{ExtensionSequence, ParsedExtension, X509Extension};
 
 // A word and the value behind it.
 fn put_value<T: Show>(out: &mut Answer, word: &str, value: &T) {

@@ -2,13 +2,11 @@
 
 use crate::answer::Answer;
 use crate::base::Show;
-use x509_parser::error::X509Error;
-use x509_parser::public_key::{ECPoint, PublicKey, RSAPublicKey};
-use x509_parser::signature_algorithm::{
-    MaskGenAlgorithm, RsaAesOaepParams, RsaSsaPssParams, SignatureAlgorithm,
+use x509_fields::X509Error;
+use x509_keys::{
+    ECPoint, EcdsaSigValue, MaskGenAlgorithm, PublicKey, RSAPublicKey, RsaAesOaepParams,
+    RsaSsaPssParams, SignatureAlgorithm, SubjectPublicKeyInfo,
 };
-use x509_parser::signature_value::EcdsaSigValue;
-use x509_parser::x509::SubjectPublicKeyInfo;
 
 impl Show for SubjectPublicKeyInfo<'_> {
     fn show(&self, out: &mut Answer) {

@@ -3,14 +3,13 @@
 use crate::answer::Answer;
 use crate::base::Show;
 use std::alloc::Global;
-use x509_parser::der::UnsignedBytes;
-use x509_parser::error::X509Error;
-use x509_parser::revocation_list::{
+use x509_der::UnsignedBytes;
+use x509_fields::{ASN1Time, AlgorithmIdentifier, X509Error, X509Version};
+use x509_lists::{
     CertificateListEntries, CertificateRevocationList, ExtensionIter, RevokedCertificate,
     RevokedEntries, TbsCertList, TbsCertListEntries,
 };
-use x509_parser::time::ASN1Time;
-use x509_parser::x509::{AlgorithmIdentifier, X509Name, X509Version};
+use x509_names::X509Name;
 
 // Whether an extension is critical, and what it says, where it is there.
 fn put_critical<T: Show>(out: &mut Answer, found: Option<(bool, T)>) {

@@ -5,9 +5,9 @@ use crate::base::{Show, put_all};
 use crate::usages::{Hasher, put_digits};
 use std::collections::HashMap;
 use std::fmt;
-use x509_parser::der::Oid;
-use x509_parser::error::X509Error;
-use x509_parser::extensions::{
+use x509_der::Oid;
+use x509_fields::X509Error;
+use x509_general_names::{
     AccessDescription, AccessIter, AuthorityInfoAccess, AuthorityKeyIdentifier,
     CRLDistributionPoint, CRLDistributionPoints, DistributionPointName, GeneralName,
     GeneralSubtree, IssuerAlternativeName, IssuingDistributionPoint, KeyIdentifier,

@@ -2,8 +2,10 @@
 
 use crate::answer::Answer;
 use crate::base::Show;
-use x509_parser::certification_request::{X509CertificationRequest, X509CertificationRequestInfo};
-use x509_parser::cri_attributes::{ExtensionRequest, ParsedCriAttribute, X509CriAttribute};
+use x509_requests::{
+    ExtensionRequest, ParsedCriAttribute, X509CertificationRequest, X509CertificationRequestInfo,
+    X509CriAttribute,
+};
 
 impl Show for ExtensionRequest<'_> {
     fn show(&self, out: &mut Answer) {

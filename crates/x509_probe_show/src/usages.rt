@@ -3,13 +3,12 @@
 use crate::answer::Answer;
 use crate::base::Show;
 use std::hash::{BuildHasherDefault, FoldHasher};
-use x509_parser::extensions::{
-    BasicConstraints, ExtendedKeyUsage, InhibitAnyPolicy, KeyUsage, NSCertType, PolicyConstraints,
-    PolicyInformation, PolicyMapping, PolicyMappings, PolicyQualifierInfo,
-    SignedCertificateTimestamp,
+use x509_fields::ReasonCode;
+use x509_values::{
+    BasicConstraints, CRLNumber, ExtendedKeyUsage, InhibitAnyPolicy, InvalidityDate, KeyUsage,
+    NSCertType, PolicyConstraints, PolicyInformation, PolicyList, PolicyMapping, PolicyMappings,
+    PolicyQualifierInfo, ReasonCodeValue, SignedCertificateTimestamp, TimestampList,
 };
-use x509_parser::x509::ReasonCode;
-use x509_values::{CRLNumber, InvalidityDate, PolicyList, ReasonCodeValue, TimestampList};
 
 /// The hasher of the maps.
 pub type Hasher = BuildHasherDefault<FoldHasher>;

@@ -1,13 +1,11 @@
 //! Walks over certificates.
 
 use crate::recorder::{Recorder, RecorderByValue, Walk, WalkByValue, number, put_end};
-use x509_parser::certificate::{TbsCertificate, X509Certificate, X509CertificateParser};
-use x509_parser::der::Reader;
-use x509_parser::error::X509Error;
-use x509_parser::visitor::{
-    CertificateVisit, CertificateVisits, WalkCertificate, X509CertificateVisitor,
-};
+use x509_certs::{TbsCertificate, X509Certificate, X509CertificateParser};
+use x509_der::Reader;
+use x509_fields::X509Error;
 use x509_probe_show::{Answer, Look, look_at, look_in};
+use x509_visitors::{CertificateVisit, CertificateVisits, WalkCertificate, X509CertificateVisitor};
 
 impl CertificateVisits for RecorderByValue {
     ghost use Rattle.std.specs.Prelude.{⊤};

@@ -1,12 +1,10 @@
 //! Walks over lists.
 
 use crate::recorder::{Recorder, RecorderByValue, Walk, WalkByValue, number, put_end};
-use x509_parser::error::X509Error;
-use x509_parser::revocation_list::{CertificateRevocationList, TbsCertList};
-use x509_parser::visitor::{
-    CertificateRevocationListVisitor, ListVisit, ListVisits, WalkRevocationList,
-};
+use x509_fields::X509Error;
+use x509_lists::{CertificateRevocationList, TbsCertList};
 use x509_probe_show::{Answer, Look, look_in};
+use x509_visitors::{CertificateRevocationListVisitor, ListVisit, ListVisits, WalkRevocationList};
 
 impl ListVisits for RecorderByValue {
     ghost use Rattle.std.specs.Prelude.{⊤};

@@ -1,7 +1,7 @@
 //! The readers of one element.
 
 use crate::outcome::put_outcome;
-use x509_parser::der::{
+use x509_der::{
     BerError, Children, Err, Stop, Tries, read_any, read_any_loose, read_bits, read_bool,
     read_bool_loose, read_enumerated, read_explicit, read_header, read_header_loose, read_ia5,
     read_implicit, read_implicit_bits, read_integer, read_octets, read_oid, read_sequence,

@@ -1,15 +1,18 @@
 //! The parsers at both depths, strict and not, and the calls of the facade.
 
 use crate::outcome::{put_located, put_marked, put_outcome, put_uncounted, put_whole};
-use x509_parser::certificate::{TbsCertificateParser, X509CertificateParser};
-use x509_parser::der::{Reader, Tries};
-use x509_parser::extensions::X509ExtensionParser;
-use x509_parser::{
-    parse_crl_der, parse_x509_certificate_located, parse_x509_certificate_strict, parse_x509_crl,
-    parse_x509_crl_entries, parse_x509_crl_entries_located, parse_x509_crl_entries_strict,
-    parse_x509_crl_located, parse_x509_crl_strict, parse_x509_csr_located, parse_x509_csr_strict,
+use x509_certs::{
+    TbsCertificateParser, X509CertificateParser, parse_x509_certificate_located,
+    parse_x509_certificate_strict,
+};
+use x509_der::{Reader, Tries};
+use x509_extensions::X509ExtensionParser;
+use x509_lists::{
+    parse_crl_der, parse_x509_crl, parse_x509_crl_entries, parse_x509_crl_entries_located,
+    parse_x509_crl_entries_strict, parse_x509_crl_located, parse_x509_crl_strict,
 };
 use x509_probe_show::Answer;
+use x509_requests::{parse_x509_csr_located, parse_x509_csr_strict};
 
 // A signed part by a parser, where the parser takes it.
 fn tbs(parser: TbsCertificateParser, i: &[u8], out: &mut Answer) {

@@ -1,12 +1,11 @@
 //! Names by registries of identifiers.
 
-use x509_names::registry_full;
-use x509_parser::der::Oid;
-use x509_parser::error::{NidError, X509Error};
-use x509_parser::objects::{
-    OidEntry, OidRegistry, oid_registry, oid2abbrev, oid2description, oid2sn,
+use x509_der::Oid;
+use x509_fields::{NidError, X509Error};
+use x509_names::{
+    OidEntry, OidRegistry, X509Name, oid_registry, oid2abbrev, oid2description, oid2sn,
+    registry_full,
 };
-use x509_parser::x509::X509Name;
 use x509_probe_show::{Answer, Look, look_in};
 
 // A name of an identifier, or that there is none.

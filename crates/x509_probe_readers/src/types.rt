@@ -5,38 +5,34 @@ use crate::outcome::{
 };
 use std::alloc::Global;
 use std::fmt;
-use x509_extensions::ExtensionSequence;
-use x509_parser::certificate::{TbsCertificate, Validity, X509Certificate};
-use x509_parser::certification_request::{X509CertificationRequest, X509CertificationRequestInfo};
-use x509_parser::cri_attributes::{ExtensionRequest, X509CriAttribute};
-use x509_parser::der::{
+use x509_certs::{TbsCertificate, Validity, X509Certificate};
+use x509_der::{
     BerError, Err, FromDer, ReadError, Sequence, Tries, Window, read_any, read_run, read_run1,
     read_to_end,
 };
-use x509_parser::error::X509Error;
-use x509_parser::extensions::{
-    AccessDescription, AuthorityInfoAccess, AuthorityKeyIdentifier, BasicConstraints,
-    CRLDistributionPoint, CRLDistributionPoints, DistributionPointName, ExtendedKeyUsage,
-    GeneralName, GeneralSubtree, InhibitAnyPolicy, IssuerAlternativeName, IssuingDistributionPoint,
-    KeyIdentifier, KeyUsage, NSCertType, NameConstraints, PolicyConstraints, PolicyInformation,
-    PolicyMapping, PolicyMappings, PolicyQualifierInfo, ReasonFlags, SubjectAlternativeName,
-    SubjectInfoAccess, X509Extension, X509ExtensionParser, parse_ct_signed_certificate_timestamp,
-    parse_ct_signed_certificate_timestamp_list,
+use x509_extensions::{ExtensionSequence, X509Extension, X509ExtensionParser};
+use x509_fields::{ASN1Time, AlgorithmIdentifier, X509Error, X509Version};
+use x509_general_names::{
+    AccessDescription, AuthorityInfoAccess, AuthorityKeyIdentifier, CRLDistributionPoint,
+    CRLDistributionPoints, DistributionPointName, GeneralName, GeneralSubtree,
+    IssuerAlternativeName, IssuingDistributionPoint, KeyIdentifier, NameConstraints, ReasonFlags,
+    SubjectAlternativeName, SubjectInfoAccess,
 };
-use x509_parser::public_key::RSAPublicKey;
-use x509_parser::revocation_list::{
+use x509_keys::{EcdsaSigValue, RSAPublicKey, SubjectPublicKeyInfo};
+use x509_lists::{
     CertificateListEntries, CertificateRevocationList, RevokedCertificate, TbsCertList,
     TbsCertListEntries,
 };
-use x509_parser::signature_value::EcdsaSigValue;
-use x509_parser::time::ASN1Time;
-use x509_parser::x509::{
-    AlgorithmIdentifier, AttributeTypeAndValue, RelativeDistinguishedName, SubjectPublicKeyInfo,
-    X509Name, X509Version,
-};
+use x509_names::{AttributeTypeAndValue, RelativeDistinguishedName, X509Name};
 use x509_probe_show::{Answer, Octets, Show, Text, put_result};
+use x509_requests::{
+    ExtensionRequest, X509CertificationRequest, X509CertificationRequestInfo, X509CriAttribute,
+};
 use x509_values::{
-    CRLNumber, InvalidityDate, PolicyList, ReasonCodeValue, TimestampList, read_ns_comment,
+    BasicConstraints, CRLNumber, ExtendedKeyUsage, InhibitAnyPolicy, InvalidityDate, KeyUsage,
+    NSCertType, PolicyConstraints, PolicyInformation, PolicyList, PolicyMapping, PolicyMappings,
+    PolicyQualifierInfo, ReasonCodeValue, TimestampList, parse_ct_signed_certificate_timestamp,
+    parse_ct_signed_certificate_timestamp_list, read_ns_comment,
 };
 
 // An outcome, alone.

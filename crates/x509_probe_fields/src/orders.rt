@@ -1,7 +1,7 @@
 //! Which of two values comes first.
 
 use std::cmp::Ordering;
-use x509_parser::der::{Oid, UnsignedBytes};
+use x509_der::{Oid, UnsignedBytes};
 use x509_probe_show::Answer;
 
 // The word for an order.

@@ -1,10 +1,9 @@
 //! Values that calls make of what was read: times in other forms and at other offsets, names by their members.
 
 use std::alloc::{AllocError, Global};
-use x509_parser::der::{FromDer, Oid};
-use x509_parser::error::X509Error;
-use x509_parser::time::{ASN1Time, OffsetDateTime};
-use x509_parser::x509::{RelativeDistinguishedName, X509Name};
+use x509_der::{FromDer, Oid};
+use x509_fields::{ASN1Time, OffsetDateTime, X509Error};
+use x509_names::{RelativeDistinguishedName, X509Name};
 use x509_probe_show::{Answer, Look, Show, both, look_in, put_result};
 
 // A time made again in four ways.

@@ -1,12 +1,11 @@
 //! Keys, and parameters of algorithms.
 
-use crate::pairs::read_both;
-use x509_parser::der::{FromDer, Tries, read_any};
-use x509_parser::error::X509Error;
-use x509_parser::public_key::ECPoint;
-use x509_parser::signature_algorithm::{RsaAesOaepParams, RsaSsaPssParams, SignatureAlgorithm};
-use x509_parser::x509::{AlgorithmIdentifier, SubjectPublicKeyInfo};
-use x509_probe_show::{Answer, Show, both, put_result};
+use x509_der::{FromDer, Tries, read_any};
+use x509_fields::{AlgorithmIdentifier, X509Error};
+use x509_keys::{
+    ECPoint, RsaAesOaepParams, RsaSsaPssParams, SignatureAlgorithm, SubjectPublicKeyInfo,
+};
+use x509_probe_show::{Answer, Show, both, put_result, read_both};
 
 // The key of a key info.
 fn put_key(a: &[u8], out: &mut Answer) {

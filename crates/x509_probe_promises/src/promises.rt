@@ -1,16 +1,14 @@
 //! What holds of every input, whatever is answered: windows, depths, strict readers, counts, copies, the index, and that memory suffices.
 
 use std::alloc::{AllocError, Global};
-use x509_parser::certificate::{X509Certificate, X509CertificateParser};
-use x509_parser::certification_request::X509CertificationRequest;
-use x509_parser::der::{Err, FromDer, ReadError, Reader, Tries, read_any, read_any_loose};
-use x509_parser::error::X509Error;
-use x509_parser::extensions::{X509Extension, X509ExtensionParser};
-use x509_parser::revocation_list::{CertificateRevocationList, TbsCertList};
-use x509_parser::utils::TryClone;
-use x509_parser::x509::X509Name;
-use x509_parser::{parse_x509_crl_strict, parse_x509_csr_strict};
+use x509_certs::{X509Certificate, X509CertificateParser};
+use x509_der::{Err, FromDer, ReadError, Reader, Tries, read_any, read_any_loose};
+use x509_extensions::{X509Extension, X509ExtensionParser};
+use x509_fields::{TryClone, X509Error};
+use x509_lists::{CertificateRevocationList, TbsCertList, parse_x509_crl_strict};
+use x509_names::X509Name;
 use x509_probe_show::Show;
+use x509_requests::{X509CertificationRequest, parse_x509_csr_strict};
 use x509_revoked::RevocationIndex;
 
 /// What is looked at.

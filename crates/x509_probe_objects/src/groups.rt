@@ -1,6 +1,5 @@
 //! Maps that took a list: under each identifier what stood with it.
 
-use crate::pairs::read_both;
 use std::collections::HashMap;
 use x509_parser::der::{FromDer, Oid};
 use x509_parser::error::X509Error;
@@ -8,7 +7,7 @@ use x509_parser::extensions::{
     AccessDescription, AuthorityInfoAccess, GeneralName, PolicyMapping, PolicyMappings,
     SubjectInfoAccess,
 };
-use x509_probe_show::{Answer, Hasher, Show};
+use x509_probe_show::{Answer, Hasher, Show, read_both};
 
 /// A list that a map can take.
 trait IntoGroups<'a>: FromDer<'a, X509Error> + Show {

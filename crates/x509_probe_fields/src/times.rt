@@ -1,13 +1,12 @@
 //! Times and validities: texts, sums, differences, clocks.
 
 use crate::orders::put_order;
-use crate::pairs::read_both;
 use crate::registries::put_text;
 use jiff::SignedDuration;
-use x509_parser::certificate::Validity;
-use x509_parser::der::FromDer;
-use x509_parser::time::{ASN1Time, Clock};
-use x509_probe_show::{Answer, Show, put_result};
+use x509_certs::Validity;
+use x509_der::FromDer;
+use x509_fields::{ASN1Time, Clock};
+use x509_probe_show::{Answer, Show, put_result, read_both};
 
 // Two times, compared.
 fn put_times(a: &[u8], b: &[u8], out: &mut Answer) {

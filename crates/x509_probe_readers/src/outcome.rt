@@ -1,8 +1,8 @@
 //! What readers answer.
 
 use std::fmt;
-use x509_parser::der::{BerError, Err, Located, ReadError, Tries};
-use x509_parser::error::X509Error;
+use x509_der::{BerError, Err, Located, ReadError, Tries};
+use x509_fields::X509Error;
 use x509_probe_show::{Answer, Show};
 
 // How many headers were looked at.

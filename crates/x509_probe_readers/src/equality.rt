@@ -1,23 +1,21 @@
 //! Equality of values.
 
-use x509_parser::certificate::{TbsCertificate, Validity, X509Certificate};
-use x509_parser::certification_request::{X509CertificationRequest, X509CertificationRequestInfo};
-use x509_parser::cri_attributes::{ExtensionRequest, X509CriAttribute};
-use x509_parser::der::FromDer;
-use x509_parser::error::X509Error;
-use x509_parser::extensions::{
-    AuthorityInfoAccess, AuthorityKeyIdentifier, CRLDistributionPoints, ExtendedKeyUsage,
-    GeneralName, IssuingDistributionPoint, NameConstraints, PolicyMappings, SubjectAlternativeName,
-    X509Extension,
+use x509_certs::{TbsCertificate, Validity, X509Certificate};
+use x509_der::FromDer;
+use x509_extensions::X509Extension;
+use x509_fields::{AlgorithmIdentifier, X509Error, X509Version};
+use x509_general_names::{
+    AuthorityInfoAccess, AuthorityKeyIdentifier, CRLDistributionPoints, GeneralName,
+    IssuingDistributionPoint, NameConstraints, SubjectAlternativeName,
 };
-use x509_parser::public_key::RSAPublicKey;
-use x509_parser::revocation_list::{RevokedCertificate, TbsCertList};
-use x509_parser::x509::{
-    AlgorithmIdentifier, AttributeTypeAndValue, RelativeDistinguishedName, SubjectPublicKeyInfo,
-    X509Name, X509Version,
-};
+use x509_keys::{RSAPublicKey, SubjectPublicKeyInfo};
+use x509_lists::{RevokedCertificate, TbsCertList};
+use x509_names::{AttributeTypeAndValue, RelativeDistinguishedName, X509Name};
 use x509_probe_show::{Answer, Show};
-use x509_values::PolicyList;
+use x509_requests::{
+    ExtensionRequest, X509CertificationRequest, X509CertificationRequestInfo, X509CriAttribute,
+};
+use x509_values::{ExtendedKeyUsage, PolicyList, PolicyMappings};
 
 // Whether a value is equal to another that is read.
 fn put_equality<'a, T: FromDer<'a, X509Error> + PartialEq + Show>(

@@ -1,8 +1,8 @@
 //! The public constants, by their names.
 
-use x509_parser::der::Tag;
-use x509_parser::extensions::CtVersion;
-use x509_parser::objects::{
+use x509_der::Tag;
+use x509_fields::{ReasonCode, X509Version};
+use x509_names::{
     OID_CT_LIST_SCT, OID_DOMAIN_COMPONENT, OID_GOST_R3410_2001, OID_HASH_SHA1, OID_KEY_TYPE_DSA,
     OID_KEY_TYPE_EC_PUBLIC_KEY, OID_KEY_TYPE_GOST_R3410_2012_256, OID_KEY_TYPE_GOST_R3410_2012_512,
     OID_PKCS1_RSAENCRYPTION, OID_PKCS1_RSASSAPSS, OID_PKCS1_SHA1WITHRSA, OID_PKCS1_SHA256WITHRSA,
@@ -19,8 +19,8 @@ use x509_parser::objects::{
     OID_X509_EXT_SUBJECT_ALT_NAME, OID_X509_EXT_SUBJECT_KEY_IDENTIFIER, OID_X509_LOCALITY_NAME,
     OID_X509_ORGANIZATION_NAME, OID_X509_ORGANIZATIONAL_UNIT, OID_X509_STATE_OR_PROVINCE_NAME,
 };
-use x509_parser::x509::{ReasonCode, X509Version};
 use x509_probe_show::Answer;
+use x509_values::CtVersion;
 
 // The reasons of revocation.
 const REASONS: [(&str, ReasonCode); 10] = [

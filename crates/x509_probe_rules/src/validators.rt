@@ -4,20 +4,19 @@ use crate::recorder::Recorder;
 use std::alloc::Global;
 use std::io;
 use std::io::{ErrorKind, Write};
-use x509_parser::certificate::{TbsCertificate, Validity, X509Certificate};
-use x509_parser::cri_attributes::ExtensionRequest;
-use x509_parser::der::{Err, FromDer};
-use x509_parser::error::X509Error;
-use x509_parser::extensions::X509Extension;
-use x509_parser::time::ASN1Time;
-use x509_parser::validate::{
+use x509_certs::{TbsCertificate, Validity, X509Certificate};
+use x509_der::{Err, FromDer};
+use x509_extensions::X509Extension;
+use x509_fields::{ASN1Time, X509Error};
+use x509_keys::SubjectPublicKeyInfo;
+use x509_names::X509Name;
+use x509_probe_show::{Answer, Look, look_at, look_in, put_result};
+use x509_requests::ExtensionRequest;
+use x509_validators::{
     StderrLogger, TbsCertificateStructureValidator, Validate, Validator, X509CertificateValidator,
     X509ExtensionsValidator, X509NameStructureValidator, X509PublicKeyValidator,
-    X509StructureValidator, chain,
+    X509StructureValidator, chain, validate_to_vec,
 };
-use x509_parser::x509::{SubjectPublicKeyInfo, X509Name};
-use x509_probe_show::{Answer, Look, look_at, look_in, put_result};
-use x509_validators::validate_to_vec;
 
 // All texts, each behind a letter.
 fn put_texts(out: &mut Answer, letter: &str, texts: &[String]) {

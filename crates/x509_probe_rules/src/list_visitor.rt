@@ -1,16 +1,16 @@
 //! A visitor of lists with a method for each visit.
 
 use crate::recorder::Recorder;
-use x509_parser::der::{BerError, BitString, Err, UnsignedBytes};
-use x509_parser::error::X509Error;
-use x509_parser::extensions::{
+use x509_der::{BerError, BitString, Err, UnsignedBytes};
+use x509_extensions::X509Extension;
+use x509_fields::{ASN1Time, AlgorithmIdentifier, ReasonCode, X509Error, X509Version};
+use x509_general_names::{
     AuthorityInfoAccess, AuthorityKeyIdentifier, IssuerAlternativeName, IssuingDistributionPoint,
-    SignedCertificateTimestamp, X509Extension,
 };
-use x509_parser::revocation_list::{RevokedCertificate, TbsCertList};
-use x509_parser::time::ASN1Time;
-use x509_parser::visitor::CertificateRevocationListVisitor;
-use x509_parser::x509::{AlgorithmIdentifier, ReasonCode, X509Name, X509Version};
+use x509_lists::{RevokedCertificate, TbsCertList};
+use x509_names::X509Name;
+use x509_values::SignedCertificateTimestamp;
+use x509_visitors::CertificateRevocationListVisitor;
 
 impl CertificateRevocationListVisitor for Recorder {
     ghost use Rattle.std.specs.Prelude.{⊤};

@@ -1,22 +1,22 @@
 //! Copies of values.
 
-use x509_parser::certificate::{TbsCertificate, X509Certificate};
-use x509_parser::cri_attributes::{ExtensionRequest, X509CriAttribute};
-use x509_parser::der::FromDer;
-use x509_parser::error::X509Error;
-use x509_parser::extensions::{
+use x509_certs::{TbsCertificate, X509Certificate};
+use x509_der::FromDer;
+use x509_extensions::X509Extension;
+use x509_fields::{TryClone, X509Error};
+use x509_general_names::{
     AuthorityInfoAccess, AuthorityKeyIdentifier, CRLDistributionPoints, DistributionPointName,
-    ExtendedKeyUsage, GeneralName, IssuerAlternativeName, IssuingDistributionPoint,
-    NameConstraints, PolicyMappings, SubjectAlternativeName, SubjectInfoAccess, X509Extension,
+    GeneralName, IssuerAlternativeName, IssuingDistributionPoint, NameConstraints,
+    SubjectAlternativeName, SubjectInfoAccess,
 };
-use x509_parser::revocation_list::{
+use x509_lists::{
     CertificateListEntries, CertificateRevocationList, RevokedCertificate, TbsCertList,
     TbsCertListEntries,
 };
-use x509_parser::utils::TryClone;
-use x509_parser::x509::{RelativeDistinguishedName, X509Name};
+use x509_names::{RelativeDistinguishedName, X509Name};
 use x509_probe_show::{Answer, Look, Show, look_at};
-use x509_values::PolicyList;
+use x509_requests::{ExtensionRequest, X509CriAttribute};
+use x509_values::{ExtendedKeyUsage, PolicyList, PolicyMappings};
 
 /// By what a copy is compared to the value.
 trait Compare<T> {

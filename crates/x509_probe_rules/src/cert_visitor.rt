@@ -1,17 +1,21 @@
 //! A visitor of certificates with a method for each visit.
 
 use crate::recorder::Recorder;
-use x509_parser::certificate::{TbsCertificate, UniqueIdentifier, Validity};
-use x509_parser::der::{BerError, BitString, Err};
-use x509_parser::error::X509Error;
-use x509_parser::extensions::{
-    AuthorityInfoAccess, AuthorityKeyIdentifier, BasicConstraints, CRLDistributionPoints,
-    CertificatePolicies, ExtendedKeyUsage, InhibitAnyPolicy, IssuerAlternativeName, KeyIdentifier,
-    KeyUsage, NSCertType, NameConstraints, PolicyConstraints, PolicyMappings,
-    SignedCertificateTimestamp, SubjectAlternativeName, X509Extension,
+use x509_certs::{TbsCertificate, UniqueIdentifier, Validity};
+use x509_der::{BerError, BitString, Err};
+use x509_extensions::X509Extension;
+use x509_fields::{AlgorithmIdentifier, X509Error, X509Version};
+use x509_general_names::{
+    AuthorityInfoAccess, AuthorityKeyIdentifier, CRLDistributionPoints, IssuerAlternativeName,
+    KeyIdentifier, NameConstraints, SubjectAlternativeName,
 };
-use x509_parser::visitor::X509CertificateVisitor;
-use x509_parser::x509::{AlgorithmIdentifier, SubjectPublicKeyInfo, X509Name, X509Version};
+use x509_keys::SubjectPublicKeyInfo;
+use x509_names::X509Name;
+use x509_values::{
+    BasicConstraints, CertificatePolicies, ExtendedKeyUsage, InhibitAnyPolicy, KeyUsage,
+    NSCertType, PolicyConstraints, PolicyMappings, SignedCertificateTimestamp,
+};
+use x509_visitors::X509CertificateVisitor;
 
 impl X509CertificateVisitor for Recorder {
     ghost use Rattle.std.specs.Prelude.{⊤};

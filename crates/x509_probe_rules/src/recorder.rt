@@ -1,11 +1,11 @@
 //! A visitor and logger that writes each visit and each message down.
 
 use std::alloc::Global;
-use x509_parser::der::{BerError, Err};
-use x509_parser::error::X509Error;
-use x509_parser::extensions::X509Extension;
-use x509_parser::validate::Logger;
+use x509_der::{BerError, Err};
+use x509_extensions::X509Extension;
+use x509_fields::X509Error;
 use x509_probe_show::{Answer, Show, put_all};
+use x509_validators::Logger;
 
 /// Writes each visit and each message down, and refuses one of them.
 #[derive(Drop)]

@@ -1,9 +1,9 @@
 //! Why the values of extensions are refused, and where.
 
 use std::alloc::Global;
-use x509_parser::der::{Err, FromDer, Located, Reader};
-use x509_parser::error::X509Error;
-use x509_parser::extensions::{X509Extension, X509ExtensionParser};
+use x509_der::{Err, FromDer, Located, Reader};
+use x509_extensions::{X509Extension, X509ExtensionParser};
+use x509_fields::X509Error;
 use x509_probe_show::Answer;
 
 // Why the value of an extension is refused that wasn't looked at.

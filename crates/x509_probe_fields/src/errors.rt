@@ -1,9 +1,8 @@
 //! Errors and reasons by numbers, and their texts.
 
 use std::fmt;
-use x509_parser::der::{BerError, Err, ErrorKind, ReadError};
-use x509_parser::error::{NidError, X509Error};
-use x509_parser::x509::ReasonCode;
+use x509_der::{BerError, Err, ErrorKind, ReadError};
+use x509_fields::{NidError, ReasonCode, X509Error};
 use x509_probe_show::Answer;
 
 // The errors of lists by numbers of their own.

@@ -1,0 +1,24 @@
+//! Answers of x509_probe that calls on whole objects give, and look-ups in them: objects of any kind, the calls of the facade, what is found by
+//! an identifier or a serial, maps, words for keys and columns, and the elements a line each.
+//!
+//! Each module answers the words of one subject, by a `match` on the word.
+#![tactic(auto)]
+
+mod anything;
+mod calls;
+mod columns;
+mod dumps;
+mod groups;
+mod look_ups;
+
+use x509_probe_show::Answer;
+
+/// Adds the answer to a word and its bytes; false where it is no word of such a call.
+pub fn answer(word: &str, a: &[u8], b: &[u8], out: &mut Answer) -> bool {
+    calls::answer(word, a, b, out)
+        || anything::answer(word, a, out)
+        || columns::answer(word, a, out)
+        || dumps::answer(word, a, out)
+        || look_ups::answer(word, a, b, out)
+        || groups::answer(word, a, out)
+}
