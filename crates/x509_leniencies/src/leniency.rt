@@ -1,5 +1,8 @@
 //! Lenient rules.
 
+ghost use Rattle.std.specs.Prelude.{◌≡◌};
+ghost use Rattle.x509_leniencies.specs.Words.{leniency_word};
+
 /// A rule by which an object is taken that a strict reader refuses (docs/GRAMMAR.md).
 #[derive(Clone, Copy, Debug, PartialEq, Eq)]
 pub enum Leniency {
@@ -22,6 +25,24 @@ pub enum Leniency {
     UnreadName,
     /// A rule that the reader of this element uses inside it, as one of an extension's value or of an attribute's.
     Inside,
+}
+
+impl Leniency {
+    /// Its name in reports: `bytes_behind`, `boolean`, `serial_number`, `wrapper`, `long_length`, `no_set`, `unread_name`, `inside`.
+    pub fn word(self) -> &'static str
+        ensures { result.now ≡ leniency_word self }
+    {
+        match self {
+            Leniency::BytesBehind => "bytes_behind",
+            Leniency::Boolean => "boolean",
+            Leniency::SerialNumber => "serial_number",
+            Leniency::Wrapper => "wrapper",
+            Leniency::LongLength => "long_length",
+            Leniency::NoSet => "no_set",
+            Leniency::UnreadName => "unread_name",
+            Leniency::Inside => "inside",
+        }
+    }
 }
 
 /// A rule that is used, and where.

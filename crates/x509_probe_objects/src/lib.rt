@@ -9,6 +9,7 @@ mod calls;
 mod columns;
 mod dumps;
 mod groups;
+mod lenient;
 mod look_ups;
 
 use x509_probe_show::Answer;
@@ -19,6 +20,7 @@ pub fn answer(word: &str, a: &[u8], b: &[u8], out: &mut Answer) -> bool {
         || anything::answer(word, a, out)
         || columns::answer(word, a, out)
         || dumps::answer(word, a, out)
+        || lenient::answer(word, a, out)
         || look_ups::answer(word, a, b, out)
         || groups::answer(word, a, out)
 }

@@ -1,0 +1,67 @@
+//! The lenient rules that an object uses.
+
+use x509_der::Err;
+use x509_parser::error::X509Error;
+use x509_parser::leniencies::{LenientUse, leniencies};
+use x509_parser::paths::{Part, path_to};
+use x509_parser::{parse_x509_certificate_marked, parse_x509_crl_marked, parse_x509_csr_marked};
+use x509_probe_show::Answer;
+
+// Whether a strict reader takes what a reader takes.
+fn put_mark<T: Drop>(read: Result<(&[u8], T, bool), Err<X509Error>>, out: &mut Answer) {
+    match read {
+        Ok((_, _value, true)) => out.add("plain "),
+        Ok((_, _value, false)) => out.add("lenient "),
+        Err(refusal) if refusal.is_out_of_memory() => out.stop(),
+        Err(_) => out.add("refused "),
+    }
+}
+
+// The octet of a rule, its name, and the path of fields that leads there.
+fn put_use(object: Part, a: &[u8], used: &LenientUse, out: &mut Answer) {
+    match path_to(out.alloc(), object, a, used.at) {
+        Ok(path) => {
+            out.display(&used.at);
+            out.add(" ");
+            out.add(used.rule.word());
+            out.add(" ");
+            out.add(path.as_str());
+            out.add("|");
+        }
+        Err(_) => out.stop(),
+    }
+}
+
+// Each rule, in order, with a bar behind it.
+fn put_uses(object: Part, a: &[u8], out: &mut Answer) {
+    match leniencies(out.alloc(), object, a) {
+        Ok(uses) => {
+            out.add("|");
+            for used in &uses {
+                put_use(object, a, used, out);
+            }
+        }
+        Err(_) => out.stop(),
+    }
+}
+
+/// Adds whether an object stands plainly, and the lenient rules that it uses; false where the word names none.
+pub fn answer(word: &str, a: &[u8], out: &mut Answer) -> bool {
+    let alloc = out.alloc();
+    match word {
+        "certificate_leniencies" => {
+            put_mark(parse_x509_certificate_marked(alloc, a), out);
+            put_uses(Part::Certificate, a, out);
+        }
+        "list_leniencies" => {
+            put_mark(parse_x509_crl_marked(alloc, a), out);
+            put_uses(Part::List, a, out);
+        }
+        "request_leniencies" => {
+            put_mark(parse_x509_csr_marked(alloc, a), out);
+            put_uses(Part::Request, a, out);
+        }
+        _ => return false,
+    }
+    true
+}
