@@ -1,8 +1,8 @@
 //! The members of an element, one after another.
 
 ghost use Rattle.std.specs.Prelude.{◌≡◌, ◌+◌, ◌<◌, ◌^◌, option_map};
-ghost use Rattle.x509_paths.specs.Cursors.{alone, alternative, alternative_of, called_as, called_of, coming, first_of, general_name, held, holds, is_string, listed};
-ghost use Rattle.x509_paths.specs.Cursors.{resolved, standing_of, stepped};
+ghost use Rattle.x509_paths.specs.Cursors.{alone, alternative, alternative_of, called_as, called_of, coming, first_of, general_name, held, holds};
+ghost use Rattle.x509_paths.specs.Cursors.{is_string, listed, resolved, standing_of, stepped};
 ghost use Rattle.x509_paths.specs.Fields.{chosen, field};
 
 use crate::field::{Field, Stands, choose, is_each};
