@@ -12,7 +12,8 @@ use Rattle.x509_paths.specs.Paths.{size_of}
 use Rattle.x509_leniencies.specs.declared.judged.Judged.{Judged}
 use Rattle.x509_leniencies.specs.declared.judged.Judged.TheVariants.{Absent, Plain, Lenient, Unjudged}
 use Rattle.x509_leniencies.specs.Judgements.{is_absent, is_leaf, judged}
-use Rattle.x509_leniencies.specs.Uses.{Look, Use, behind_of, contents_of, inside, inside_seen, is_wrapper, member_judged, member_seen, member_stepped, members, octets_behind, own_rule, own_uses, rule_of, told, uses}
+use Rattle.x509_leniencies.specs.declared.leniency.Leniency.TheVariants.{BytesBehind}
+use Rattle.x509_leniencies.specs.Uses.{Look, Use, behind_of, contents_of, inside, inside_seen, is_wrapper, member_judged, member_seen, member_stepped, members, one_use, own_rule, own_uses, rule_of, told, unread_rule, uses}
 
 -- what is looked at in an element that may be so deep
 abbrev pub within : ℕ → Look
@@ -52,7 +53,7 @@ member look n standing around at [] found some is = absurd (omega (arith, some))
 member look n standing around at (b ∷ bs) found some is = ap (member_seen look (more look n around) standing around at (b ∷ bs)) (sym is)
 
 pub member_unseen : (look : Look) (n : ℕ) (standing : Standing) (around : List ℕ) (at : ℕ) (place : List ℕ) → 0 < length place → None ≡ seen place
-    → members look (suc n) standing around at place ≡ octets_behind at
+    → members look (suc n) standing around at place ≡ one_use BytesBehind at
 member_unseen look n standing around at place some is = member look n standing around at place None some is
 
 judgement : (look : Look) (n : ℕ) (standing : Standing) (around : List ℕ) (at : ℕ) (place : List ℕ) (s : Seen) (step : Step) (j : Judged) → 0 < length place → Some s ≡ seen place
@@ -65,7 +66,7 @@ judgement look n standing around at place s step j some is goes told =
 
 pub member_absent : (look : Look) (n : ℕ) (standing : Standing) (around : List ℕ) (at : ℕ) (place : List ℕ) (s : Seen) (step : Step) (j : Judged) → 0 < length place → Some s ≡ seen place
     → step ≡ stepped standing s.header s.contents → j ≡ judged step.0 around place → j ≡ Absent
-    → members look (suc n) standing around at place ≡ octets_behind at
+    → members look (suc n) standing around at place ≡ one_use (unread_rule step.0.part) at
 member_absent look n standing around at place s step j some is goes told absent =
     judgement look n standing around at place s step Absent some is goes (sym absent ∙ told)
 

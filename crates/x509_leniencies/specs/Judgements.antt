@@ -77,7 +77,8 @@ is_leaf parts.Whole = true
 is_leaf _ = false
 
 -- A part at the front of a place; of an extension's value, that of the extension at the front of the octets around it. Of what is looked at
--- from outside an element stands there; what else has no grammar of its own here isn't judged; and what is no field stands as nothing.
+-- from outside an element stands there; what else has no grammar of its own here isn't judged; and what is no field, or none that is read, stands
+-- as nothing.
 abbrev pub part_judged : Part → List ℕ → List ℕ → Judged
 part_judged parts.Certificate around place = judged_by (certificate true) place
 part_judged parts.TbsCertificate around place = judged_by (tbs true) place
@@ -109,6 +110,7 @@ part_judged parts.RequestInfo around place = judged_by request_info place
 part_judged parts.Attribute around place = judged_by request_attribute place
 part_judged parts.Values around place = Unjudged
 part_judged parts.Unknown around place = Absent
+part_judged parts.Unread around place = Absent
 part_judged part around place = if is_leaf part then judged_by any place else Unjudged
 
 -- an alternative of a choice is a GeneralName (RFC 5280, 4.2.1.6)

@@ -6,13 +6,14 @@ use Rattle.x509_der.specs.Primitives.{is_constructed, is_context}
 use Rattle.x509_der.specs.Reading.{header_at, strict}
 use Rattle.x509_paths.specs.declared.part.Part.{Part}
 use Rattle.x509_paths.specs.declared.part.Part.TheVariants as parts
+use Rattle.x509_paths.specs.declared.value.ExtensionValue.TheVariants as values
 use Rattle.x509_paths.specs.Cursors.{Called, Standing, Step, first_of, stepped}
 use Rattle.x509_paths.specs.Seen.{Seen, seen}
 use Rattle.x509_paths.specs.Paths.{size_of}
 use Rattle.x509_leniencies.specs.declared.judged.Judged.{Judged}
 use Rattle.x509_leniencies.specs.declared.judged.Judged.TheVariants.{Absent, Plain, Lenient, Unjudged}
 use Rattle.x509_leniencies.specs.declared.leniency.Leniency.{Leniency}
-use Rattle.x509_leniencies.specs.declared.leniency.Leniency.TheVariants.{BytesBehind, Boolean, SerialNumber, Wrapper, LongLength, NoSet, UnreadName, Inside}
+use Rattle.x509_leniencies.specs.declared.leniency.Leniency.TheVariants.{BytesBehind, WrapperByNumber, AnySerial, BasicTruth, UnreadableField, AttributeByNumbers, ChoiceByNumber, UnreadableName, TimestampsBehind, Inside}
 use Rattle.x509_leniencies.specs.declared.leniency.LenientUse.{LenientUse}
 use Rattle.x509_leniencies.specs.Judgements.{is_leaf, judged, part_judged}
 
@@ -55,22 +56,25 @@ unless false rule = Some rule
 
 -- the rule by which the element itself is taken, whatever stands in it
 abbrev pub own_rule : Part → List ℕ → Seen → Option Leniency
-own_rule parts.TaggedExtensions place s = unless (closes s.header (length place - s.size)) Wrapper
-own_rule parts.Attributes place s = unless (closes s.header (length place - s.size)) Wrapper
-own_rule parts.Attribute place s = unless (is_ok (header_at strict place)) LongLength
-own_rule parts.Values place s = unless (is_constructed 17 s.header) NoSet
-own_rule parts.RequestedExtensions place s = unless (is_constructed 17 s.header) NoSet
+own_rule parts.TaggedExtensions place s = unless (closes s.header (length place - s.size)) WrapperByNumber
+own_rule parts.Attributes place s = unless (closes s.header (length place - s.size)) WrapperByNumber
+own_rule parts.Attribute place s = unless (is_ok (header_at strict place)) AttributeByNumbers
+own_rule parts.Values place s = unless (is_constructed 17 s.header) AttributeByNumbers
+own_rule parts.RequestedExtensions place s = unless (is_constructed 17 s.header) AttributeByNumbers
 own_rule _ place s = None
 
 -- the rule of what its reader takes by one, where none of its members uses any
 abbrev pub part_rule : Part → Leniency
-part_rule parts.Serial = SerialNumber
-part_rule parts.Critical = Boolean
+part_rule parts.Serial = AnySerial
+part_rule parts.Critical = BasicTruth
+part_rule parts.DistributionPointName = ChoiceByNumber
+part_rule (parts.Value values.TimestampList) = TimestampsBehind
+part_rule parts.Attribute = BytesBehind
 part_rule _ = Inside
 
 abbrev pub rule_as : List ℕ → Part → Leniency
 rule_as [] part = part_rule part
-rule_as (c ∷ cs) part = UnreadName
+rule_as (c ∷ cs) part = UnreadableName
 
 abbrev pub rule_of : Called → Leniency
 rule_of c = rule_as c.alternative c.part
@@ -96,19 +100,21 @@ Look = Called → Judged → ℕ → List ℕ → List Use
 abbrev pub More : Type 0
 More = Standing → ℕ → List ℕ → List Use
 
--- behind the last member that can be read stand octets
-abbrev pub octets_behind : ℕ → List Use
-octets_behind at = one_use BytesBehind at
+-- by which rule what stands as such a part, but can't be read, is passed over
+abbrev pub unread_rule : Part → Leniency
+unread_rule parts.Unknown = BytesBehind
+unread_rule parts.Unread = BytesBehind
+unread_rule _ = UnreadableField
 
 abbrev pub member_judged : Look → More → Step → ℕ → List ℕ → Seen → Judged → List Use
-member_judged look more step at place s Absent = octets_behind at
+member_judged look more step at place s Absent = one_use (unread_rule step.0.part) at
 member_judged look more step at place s j = look step.0 j at place ++ more step.1 (at + size_of s) (behind_of step.0.part s)
 
 abbrev pub member_stepped : Look → More → List ℕ → ℕ → List ℕ → Seen → Step → List Use
 member_stepped look more around at place s step = member_judged look more step at place s (judged step.0 around place)
 
 abbrev pub member_seen : Look → More → Standing → List ℕ → ℕ → List ℕ → Option Seen → List Use
-member_seen look more standing around at place None = octets_behind at
+member_seen look more standing around at place None = one_use BytesBehind at
 member_seen look more standing around at place (Some s) = member_stepped look more around at place s (stepped standing s.header s.contents)
 
 -- of so many members at most

@@ -180,7 +180,7 @@ pub(crate) fn judge_part(
         Part::RequestInfo => judge_as::<X509Error, X509CertificationRequestInfo<'_>>(alloc, place),
         Part::Attribute => judge_as::<X509Error, X509CriAttribute<'_>>(alloc, place),
         Part::Values => Ok(Judged::Unjudged),
-        Part::Unknown => Ok(Judged::Absent),
+        Part::Unknown | Part::Unread => Ok(Judged::Absent),
         _ if is_leaf(part) => Ok(judge_any(place)),
         _ => Ok(Judged::Unjudged),
     }

@@ -5,13 +5,13 @@ ghost use Rattle.x509_paths.specs.Cursors.{called_of};
 ghost use Rattle.x509_paths.specs.Seen.{seen_of};
 ghost use Rattle.x509_leniencies.specs.Judgements.{part_judged};
 ghost use Rattle.x509_leniencies.specs.declared.judged.Judged.TheVariants.{Lenient, Plain};
-ghost use Rattle.x509_leniencies.specs.Uses.{behind_of, contents_of, deepest, inside, is_wrapper, leniencies, one_use, own_rule, own_uses, part_rule, rule_of, told, use_of};
+ghost use Rattle.x509_leniencies.specs.Uses.{behind_of, contents_of, deepest, inside, is_wrapper, leniencies, one_use, own_rule, own_uses, part_rule, rule_of, told, unread_rule, use_of};
 
 use crate::judged::{Judged, is_absent, is_leaf, judge, judge_part};
 use crate::leniency::{Leniency, LenientUse};
 use std::alloc::{AllocError, Global};
 use x509_der::{Class, Tries, read_header};
-use x509_paths::{Called, Cursor, Part, Seen, see};
+use x509_paths::{Called, Cursor, ExtensionValue, Part, Seen, see};
 
 /// How many parts of an object stand in one another at most.
 const DEEPEST: usize = 32;
@@ -58,14 +58,14 @@ fn own_rule(part: Part, place: &[u8], seen: &Seen<'_>) -> Option<Leniency>
             {
                 None
             } else {
-                Some(Leniency::Wrapper)
+                Some(Leniency::WrapperByNumber)
             }
         }
         Part::Attribute => {
             if read_header(&mut Tries::new(), place).is_ok() {
                 None
             } else {
-                Some(Leniency::LongLength)
+                Some(Leniency::AttributeByNumbers)
             }
         }
         Part::Values | Part::RequestedExtensions => {
@@ -75,7 +75,7 @@ fn own_rule(part: Part, place: &[u8], seen: &Seen<'_>) -> Option<Leniency>
             {
                 None
             } else {
-                Some(Leniency::NoSet)
+                Some(Leniency::AttributeByNumbers)
             }
         }
         _ => None,
@@ -87,20 +87,33 @@ fn part_rule(part: Part) -> Leniency
     ensures { result ≡ part_rule part }
 {
     match part {
-        Part::Serial => Leniency::SerialNumber,
-        Part::Critical => Leniency::Boolean,
+        Part::Serial => Leniency::AnySerial,
+        Part::Critical => Leniency::BasicTruth,
+        Part::DistributionPointName => Leniency::ChoiceByNumber,
+        Part::Value(ExtensionValue::TimestampList) => Leniency::TimestampsBehind,
+        Part::Attribute => Leniency::BytesBehind,
         _ => Leniency::Inside,
     }
 }
 
-/// The same of what is called so.
+/// The rule by which what stands as such a part, but can't be read, is passed over.
+fn unread_rule(part: Part) -> Leniency
+    ensures { result ≡ unread_rule part }
+{
+    match part {
+        Part::Unknown | Part::Unread => Leniency::BytesBehind,
+        _ => Leniency::UnreadableField,
+    }
+}
+
+/// The rule of what is called so and is taken by one, where no rule is told of what stands in it.
 fn rule_of(called: &Called) -> Leniency
     ensures { result ≡ rule_of (called_of called.now) }
 {
     if called.alternative.is_empty() {
         part_rule(called.part)
     } else {
-        Leniency::UnreadName
+        Leniency::UnreadableName
     }
 }
 
@@ -164,7 +177,7 @@ fn look_inside(
         let (called, behind) = cursor.step(&member.header, member.contents);
         let judged = judge(alloc, &called, place, left)?;
         if is_absent(judged) {
-            add(uses, Leniency::BytesBehind, next)?;
+            add(uses, unread_rule(called.part), next)?;
             return Ok(());
         }
         let rule = rule_of(&called);

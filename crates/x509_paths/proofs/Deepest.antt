@@ -77,6 +77,7 @@ deep parts.Told = 0
 deep parts.Whole = 0
 deep parts.Serial = 0
 deep parts.Critical = 0
+deep parts.Unread = 0
 deep parts.Unknown = 0
 
 either_below : (b : Bool) (x y : Part) (j : ℕ) → deep x ≤ j → deep y ≤ j → deep (if b then x else y) ≤ j
@@ -252,6 +253,7 @@ limit : (part : Part) → deep part ≤ deepest
 limit parts.Whole = omega arith
 limit parts.Serial = omega arith
 limit parts.Critical = omega arith
+limit parts.Unread = omega arith
 limit _ = omega arith
 
 -- a path of more members is the same

@@ -127,6 +127,7 @@ fields_of parts.Attribute =
 fields_of parts.AttributeType = []
 fields_of parts.Serial = []
 fields_of parts.Critical = []
+fields_of parts.Unread = []
 fields_of parts.Values = field [] Each parts.Whole ∷ []
 fields_of parts.RequestedExtensions = field [] Each parts.Extensions ∷ []
 fields_of parts.GeneralNames = field [] Each parts.GeneralName ∷ []
@@ -181,8 +182,8 @@ fields_of parts.NameConstraints =
 fields_of parts.Subtrees = field [] Each parts.Subtree ∷ []
 fields_of parts.Subtree =
     field (codes "base") Always parts.GeneralName ∷
-    field (codes "minimum") (Context 0) parts.Whole ∷
-    field (codes "maximum") (Context 1) parts.Whole ∷
+    field (codes "minimum") (Context 0) parts.Unread ∷
+    field (codes "maximum") (Context 1) parts.Unread ∷
     []
 fields_of parts.PolicyConstraints =
     field (codes "requireExplicitPolicy") (Context 0) parts.Whole ∷

@@ -130,6 +130,8 @@ pub enum Part {
     Told,
     /// A field that is not taken apart here.
     Whole,
+    /// A field of the standard that no reader here reads.
+    Unread,
     /// No field.
     Unknown,
 }
@@ -323,8 +325,8 @@ const SUBTREES: [Field; 1] = [("", Stands::Each, Part::Subtree)];
 
 const SUBTREE: [Field; 3] = [
     ("base", Stands::Always, Part::GeneralName),
-    ("minimum", Stands::Context(0), Part::Whole),
-    ("maximum", Stands::Context(1), Part::Whole),
+    ("minimum", Stands::Context(0), Part::Unread),
+    ("maximum", Stands::Context(1), Part::Unread),
 ];
 
 const POLICY_CONSTRAINTS: [Field; 2] = [
@@ -444,6 +446,7 @@ pub(crate) fn fields(part: Part) -> &'static [Field]
         | Part::QualifierId
         | Part::Told
         | Part::Whole
+        | Part::Unread
         | Part::Unknown => &[],
     }
 }

@@ -3,7 +3,8 @@ use Rattle.std.proofs.Common.{◌≡◌, ℕ, List, suc, zero, ◌+◌, ◌-◌,
 use Rattle.x509_paths.specs.Cursors.{Step, called_of, standing_of, stepped}
 use Rattle.x509_paths.specs.Seen.{seen_of}
 use Rattle.x509_paths.specs.Paths.{size_of}
-use Rattle.x509_leniencies.specs.Uses.{contents_of, inside, members, octets_behind, own_rule, own_uses, rule_of, told, use_of}
+use Rattle.x509_leniencies.specs.declared.leniency.Leniency.TheVariants.{BytesBehind}
+use Rattle.x509_leniencies.specs.Uses.{contents_of, inside, members, one_use, own_rule, own_uses, rule_of, told, unread_rule, use_of}
 use Rattle.x509_leniencies.proofs.Using.{absent_is, begins, begun, behind_fits, contents_fit, counted, ended, goes_on, inside_deepest, inside_unseen, last_added, member_absent, member_there, member_unseen, no_members, no_octets, none_left, nothing_more, present_is, some_octets, within}
 use Rattle.x509_leniencies.proofs.walk.+walking.Goals as goal
 
@@ -58,7 +59,7 @@ look_inside-returns-in_default-see t c =
     let all = length c.contents_of-left.result.now in
     let look = within (c.args.depth - 1) in
     let left : all - it.counter ≡ suc (all - (it.counter + 1)) = omega (arith, c.loop-test.true) in
-    last_added (map use_of it.uses.items) (map use_of c.add.new.uses.items) (octets_behind it.next) (members look (all - it.counter) (standing_of it.cursor) c.args.place.now it.next it.left.now) _ c.in_ok-add.ensures
+    last_added (map use_of it.uses.items) (map use_of c.add.new.uses.items) (one_use BytesBehind it.next) (members look (all - it.counter) (standing_of it.cursor) c.args.place.now it.next it.left.now) _ c.in_ok-add.ensures
     (ap (λ n. members look n (standing_of it.cursor) c.args.place.now it.next it.left.now) left
     ∙ member_unseen look (all - (it.counter + 1)) (standing_of it.cursor) c.args.place.now it.next it.left.now (some_octets it.left.now c.if-is_empty.ensures) c.in_default-see.ensures.found)
     it.invariant.0
@@ -70,7 +71,7 @@ look_inside-returns-then-is_absent t c =
     let look = within (c.args.depth - 1) in
     let left : all - it.counter ≡ suc (all - (it.counter + 1)) = omega (arith, c.loop-test.true) in
     let step : Step = (called_of c.step.result.0, standing_of c.step.result.1) in
-    last_added (map use_of it.uses.items) (map use_of c.add-then-is_absent.new.uses.items) (octets_behind it.next) (members look (all - it.counter) (standing_of it.cursor) c.args.place.now it.next it.left.now) _ c.in_ok-add-2.ensures
+    last_added (map use_of it.uses.items) (map use_of c.add-then-is_absent.new.uses.items) (one_use (unread_rule (called_of c.step.result.0).part) it.next) (members look (all - it.counter) (standing_of it.cursor) c.args.place.now it.next it.left.now) _ (c.in_ok-add-2.ensures ∙ ap (λ rule. map use_of it.uses.items ++ one_use rule it.next) c.unread_rule.ensures)
     (ap (λ n. members look n (standing_of it.cursor) c.args.place.now it.next it.left.now) left
     ∙ member_absent look (all - (it.counter + 1)) (standing_of it.cursor) c.args.place.now it.next it.left.now (seen_of c.in-Some-see.member) step c.in_ok-judged.judged
     (some_octets it.left.now c.if-is_empty.ensures) c.in-Some-see.ensures.found c.step.ensures c.in_ok-judged.ensures (absent_is c.in_ok-judged.judged c.if-is_absent.ensures))
