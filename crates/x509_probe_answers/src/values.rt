@@ -1,9 +1,11 @@
 //! Why the values of extensions are refused, and where.
 
-use std::alloc::Global;
+use std::alloc::{AllocError, Global};
+use x509_findings::refused_values;
 use x509_parser::der::{Err, FromDer, Located, Reader};
 use x509_parser::error::X509Error;
 use x509_parser::extensions::{X509Extension, X509ExtensionParser};
+use x509_parser::paths::Part;
 use x509_probe_show::Answer;
 
 // Why the value of an extension is refused that wasn't looked at.
@@ -49,10 +51,31 @@ fn put_value(a: &[u8], out: &mut Answer) {
     }
 }
 
-/// Adds why the value of an extension is refused; false where the word is another.
+// Of an object the values of its extensions that are refused: why, at which octet, and the octet at which the value begins.
+fn put_refused_values(object: Part, a: &[u8], out: &mut Answer) {
+    match refused_values(out.alloc(), object, a) {
+        Ok(values) => {
+            out.display(&values.len());
+            for value in &values {
+                out.add("; ");
+                out.refusal(&value.why);
+                out.add(" at=");
+                out.display(&value.at);
+                out.add(" value_at=");
+                out.display(&value.value_at);
+            }
+        }
+        Err(AllocError) => out.stop(),
+    }
+}
+
+/// Adds why the value of an extension is refused, or those of an object; false where the word is another.
 pub fn answer(word: &str, a: &[u8], out: &mut Answer) -> bool {
     match word {
         "value_refusal" => put_value(a, out),
+        "certificate_refused_values" => put_refused_values(Part::Certificate, a, out),
+        "list_refused_values" => put_refused_values(Part::List, a, out),
+        "request_refused_values" => put_refused_values(Part::Request, a, out),
         _ => return false,
     }
     true
