@@ -1,13 +1,13 @@
 //! The elements of an object, a line each.
 
-ghost use Rattle.std.specs.Prelude.{◌≡◌, ◌++◌, ◌+◌, ◌<◌, ◌≤◌, ◌^◌, length, IfOk, IsOk, OnOk, string_bytes, true};
+ghost use Rattle.std.specs.Prelude.{◌≡◌, ◌++◌, ◌+◌, ◌≤◌, drop, length, nat_lt, IfOk, IsOk, OnOk, string_bytes, true};
 ghost use Rattle.x509_certs.specs.Certificate.{certificate};
 ghost use Rattle.x509_lists.specs.CertificateList.{certificate_list};
 ghost use Rattle.x509_requests.specs.Request.{certification_request};
 ghost use Rattle.x509_dump.specs.Elements.{elements_of, line_of};
 ghost use Rattle.x509_dump.specs.Texts.{line_text};
 ghost use Rattle.x509_report_objects.specs.Attempts.{wishes_of};
-ghost use Rattle.x509_report.specs.Dumps.{count_before, count_found, count_in, dump_lines, found_lines, held, holds, mark_behind, mark_in, mark_text};
+ghost use Rattle.x509_report.specs.Dumps.{count_found, count_in, dump_lines, found_lines, held, holds, mark_behind, mark_in, mark_text};
 ghost use Rattle.x509_report.specs.Dumps.{marked_lines, marks_behind, part_of, part_word, value_mark, value_marks};
 ghost use Rattle.x509_report.specs.Dumps.{refusal_of, seen_by, seen_where, view_of};
 ghost use Rattle.x509_report.specs.Told.{Tells};
@@ -230,14 +230,21 @@ fn held(value: &RefusedValue) -> usize
     }
 }
 
-/// How many of the values, from the first on, are marked before an octet.
-fn count_before(values: &[RefusedValue], end: usize) -> usize
-    ensures count { result ≡ count_before end values.now }
+/// Whether an octet stands before the end of a line.
+fn is_before(octet: usize, line: &DumpLine<'_>) -> bool
+    ensures { result ≡ nat_lt octet ((line_of line.now).offset + length (line_of line.now).octets) }
+{
+    octet < line.offset || octet - line.offset < line.octets.len()
+}
+
+/// How many of the values, from the first on, are marked below a line.
+pub fn count_in(values: &[RefusedValue], line: &DumpLine<'_>) -> usize
+    ensures count { result ≡ count_in (line_of line.now) values.now }
     ensures within { result ≤ length values.now }
 {
     let mut count = 0;
     for value in values {
-        if end <= held(value) {
+        if !is_before(held(value), line) {
             return count;
         }
         count += 1;
@@ -245,13 +252,15 @@ fn count_before(values: &[RefusedValue], end: usize) -> usize
     count
 }
 
-/// How many of the values, from the first on, are marked below a line.
-pub fn count_in(values: &[RefusedValue], line: &DumpLine<'_>) -> usize
-    requires { line.now.offset + length line.now.octets.now < 2 ^ 64 }
-    ensures count { result ≡ count_in (line_of line.now) values.now }
-    ensures within { result ≤ length values.now }
+/// The values behind the first ones.
+pub fn behind(values: &[RefusedValue], count: usize) -> &[RefusedValue]
+    ensures { result.now ≡ drop count values.now }
 {
-    count_before(values, line.offset + line.octets.len())
+    if count <= values.len() {
+        &values[count..]
+    } else {
+        &[]
+    }
 }
 
 /// Adds a line that marks where a value is refused.
@@ -342,7 +351,7 @@ fn report_lines<W: Write>(
     let mut left = values;
     for found in dump(alloc, part_of(view), octets) {
         let count = report_found(alloc, printer, view, left, found)?;
-        left = &left[count..];
+        left = behind(left, count);
     }
     let behind = text_behind(alloc, view, left, octets)?;
     printer.put_text(behind.as_str())

@@ -9,7 +9,7 @@ ghost use Rattle.x509_report.specs.Sections.{dump_told, found_section, mark_at, 
 ghost use Rattle.x509_report.specs.Sections.{section_lines, section_page, value_mark, value_marks, value_words};
 ghost use Rattle.x509_report.specs.Told.{Tells};
 
-use crate::dumps::{View, count_in, holds, part_of, part_word, report_view, view_of};
+use crate::dumps::{View, behind, count_in, holds, part_of, part_word, report_view, view_of};
 use crate::options::Form;
 use crate::printer::Printer;
 use crate::stop::Stop;
@@ -207,9 +207,9 @@ fn report_lines<W: Write>(
     let mut left = values;
     let mut opened = 0;
     for found in dump(alloc, part_of(view), octets) {
-        let (behind, count) = report_found(alloc, printer, view, left, opened, found)?;
-        left = &left[count..];
-        opened = behind;
+        let (next, count) = report_found(alloc, printer, view, left, opened, found)?;
+        left = behind(left, count);
+        opened = next;
     }
     let text = end_text(alloc, view, octets, left, opened)?;
     printer.put_text(text.as_str())

@@ -26,7 +26,7 @@ loop-found-preserved g c =
     let octets = c.args.octets.now in
     let s = c.loop-found.found-iterator in
     let t = c.next.new.self in
-    let values = c.loop-found.left in
+    let values = c.loop-found.left.now in
     let next : IsNext s c.in-Some.found t = c.in-Some.ensures.steps in
     let whole = marked_lines view octets c.args.values.now (elements_of (part_of view) octets) in
     let old = g.W.Write.contents c.args.printer.now.out in
@@ -35,7 +35,8 @@ loop-found-preserved g c =
     (found_next view octets values s t c.in-Some.found next c.in_ok-count.ensures.found) c.loop-found.invariant.leads c.in_ok-count.ensures.lines in
     record {
       form = c.in_ok-count.ensures.form ∙ c.loop-found.invariant.form;
-      leads = subst (λ n. Leads old new (marked_lines view octets (drop n values) (left t)) whole) (sym c.in_ok-count.ensures.count) one;
+      leads = subst (λ vs. Leads old new (marked_lines view octets vs (left t)) whole) (sym c.behind-left.ensures)
+          (subst (λ n. Leads old new (marked_lines view octets (drop n values) (left t)) whole) (sym c.in_ok-count.ensures.count) one);
     }
 
 pub returns-in_err-count-clause-lines : goal.returns-in_err-count-clause-lines
@@ -47,14 +48,14 @@ returns-in_err-count-clause-lines g c =
     let next : IsNext s c.in-Some.found t = c.in-Some.ensures.steps in
     let whole = marked_lines view octets c.args.values.now (elements_of (part_of view) octets) in
     stops_by c.from_residual.result _ _ _ whole c.from_residual.ensures.1
-    (λ h. found_stop view octets c.loop-found.left s t c.in-Some.found _ _ _ whole next c.loop-found.invariant.leads (c.in_err-count.ensures.lines h))
+    (λ h. found_stop view octets c.loop-found.left.now s t c.in-Some.found _ _ _ whole next c.loop-found.invariant.leads (c.in_err-count.ensures.lines h))
 
 pub returns-clause-lines : goal.returns-clause-lines
 unfolding marked_lines
 returns-clause-lines g c =
     let view = c.args.view.now in
     let octets = c.args.octets.now in
-    let values = c.loop-found.left in
+    let values = c.loop-found.left.now in
     let old = g.W.Write.contents c.args.printer.now.out in
     let now = g.W.Write.contents c.loop-found.printer.out in
     let new = g.W.Write.contents c.put_text.new.self.out in
@@ -68,6 +69,6 @@ pub returns-in_err-behind-clause-lines : goal.returns-in_err-behind-clause-lines
 returns-in_err-behind-clause-lines g c =
     let view = c.args.view.now in
     let octets = c.args.octets.now in
-    let rest = marked_lines view octets c.loop-found.left (left c.loop-found.found-iterator) in
+    let rest = marked_lines view octets c.loop-found.left.now (left c.loop-found.found-iterator) in
     stops_by _ _ _ _ _ c.from_residual-in_err-behind.ensures.1
     (λ h. leads_stop _ _ _ [] rest rest (marked_lines view octets c.args.values.now (elements_of (part_of view) octets)) refl c.loop-found.invariant.leads (unwritten _ []))

@@ -14,4 +14,4 @@ returns-clause-lines g c =
     let old = g.W.Write.contents c.args.printer.now.out in
     let new = g.W.Write.contents c.report_lines.new.printer.out in
     subst (λ vs. Tells c.report_lines.result old new (marked_lines view octets vs (elements_of (part_of view) octets)))
-    (c.as_slice.ensures ∙ c.in_ok-values.ensures ∙ ap (λ p. refused_values p octets) c.part_of.ensures) c.report_lines.ensures.lines
+    (c.as_slice.ensures.value ∙ c.in_ok-values.ensures ∙ ap (λ p. refused_values p octets) c.part_of.ensures) c.report_lines.ensures.lines

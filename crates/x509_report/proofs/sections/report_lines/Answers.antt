@@ -30,17 +30,18 @@ loop-found-preserved g c =
     let whole = section_lines view octets c.args.values.now 0 (elements_of (part_of view) octets) in
     let old = g.W.Write.contents c.args.printer.now.out in
     let new = g.W.Write.contents c.report_found.new.printer.out in
-    let values = c.loop-found.left in
+    let values = c.loop-found.left.now in
     let one = leads_step old _ new (found_section view values opened c.in-Some.found) (section_lines view octets (drop (count_found values c.in-Some.found) values) (opened_by c.in-Some.found) (left t)) (section_lines view octets values opened (left s)) ((section_lines view octets c.args.values.now 0 (elements_of (part_of view) octets)))
-    (found_next view octets values opened s t c.in-Some.found next c.in_ok-report_found.ensures.found) c.loop-found.invariant.leads c.in_ok-report_found.ensures.lines in
+    (found_next view octets values opened s t c.in-Some.found next c.in_ok-next.ensures.found) c.loop-found.invariant.leads c.in_ok-next.ensures.lines in
     record {
-      form = c.in_ok-report_found.ensures.form ∙ c.loop-found.invariant.form;
-      leads = subst (λ n. Leads old new (section_lines view octets (drop n values) c.in_ok-report_found.behind (left t)) whole) (sym c.in_ok-report_found.ensures.count)
-          (subst (λ n. Leads old new (section_lines view octets (drop (count_found values c.in-Some.found) values) n (left t)) whole) (sym c.in_ok-report_found.ensures.opened) one);
+      form = c.in_ok-next.ensures.form ∙ c.loop-found.invariant.form;
+      leads = subst (λ vs. Leads old new (section_lines view octets vs c.in_ok-next.next (left t)) whole) (sym c.behind-left.ensures)
+          (subst (λ n. Leads old new (section_lines view octets (drop n values) c.in_ok-next.next (left t)) whole) (sym c.in_ok-next.ensures.count)
+          (subst (λ n. Leads old new (section_lines view octets (drop (count_found values c.in-Some.found) values) n (left t)) whole) (sym c.in_ok-next.ensures.opened) one));
     }
 
-pub returns-in_err-report_found-clause-lines : goal.returns-in_err-report_found-clause-lines
-returns-in_err-report_found-clause-lines g c =
+pub returns-in_err-next-clause-lines : goal.returns-in_err-next-clause-lines
+returns-in_err-next-clause-lines g c =
     let view = c.args.view.now in
     let octets = c.args.octets.now in
     let s = c.loop-found.found-iterator in
@@ -48,7 +49,7 @@ returns-in_err-report_found-clause-lines g c =
     let next : IsNext s c.in-Some.found t = c.in-Some.ensures.steps in
     let whole = (section_lines view octets c.args.values.now 0 (elements_of (part_of view) octets)) in
     stops_by c.from_residual.result _ _ _ whole c.from_residual.ensures.1
-    (λ h. found_stop view octets c.loop-found.left c.loop-found.opened s t c.in-Some.found _ _ _ whole next c.loop-found.invariant.leads (c.in_err-report_found.ensures.lines h))
+    (λ h. found_stop view octets c.loop-found.left.now c.loop-found.opened s t c.in-Some.found _ _ _ whole next c.loop-found.invariant.leads (c.in_err-next.ensures.lines h))
 
 pub returns-clause-lines : goal.returns-clause-lines
 unfolding section_lines
@@ -61,14 +62,14 @@ returns-clause-lines g c =
     let new = g.W.Write.contents c.put_text.new.self.out in
     let whole = (section_lines view octets c.args.values.now 0 (elements_of (part_of view) octets)) in
     let none : left c.loop-found.found-iterator ≡ [] = c.in-None.ensures.steps in
-    let leads : Leads old now (section_end view octets c.loop-found.left opened ∷ []) whole = subst (λ ls. Leads old now (section_lines view octets c.loop-found.left opened ls) whole) none c.loop-found.invariant.leads in
-    tells_last c.put_text.result old now new (section_end view octets c.loop-found.left opened ∷ []) whole leads
+    let leads : Leads old now (section_end view octets c.loop-found.left.now opened ∷ []) whole = subst (λ ls. Leads old now (section_lines view octets c.loop-found.left.now opened ls) whole) none c.loop-found.invariant.leads in
+    tells_last c.put_text.result old now new (section_end view octets c.loop-found.left.now opened ∷ []) whole leads
     (subst (λ (t : List ℕ). Tells c.put_text.result now new (t ∷ [])) (c.as_str.ensures.value ∙ c.in_ok-text.ensures) c.put_text.ensures.lines)
 
 pub returns-in_err-text-clause-lines : goal.returns-in_err-text-clause-lines
 returns-in_err-text-clause-lines g c =
     let view = c.args.view.now in
     let octets = c.args.octets.now in
-    let rest = section_lines view octets c.loop-found.left c.loop-found.opened (left c.loop-found.found-iterator) in
+    let rest = section_lines view octets c.loop-found.left.now c.loop-found.opened (left c.loop-found.found-iterator) in
     stops_by _ _ _ _ _ c.from_residual-in_err-text.ensures.1
     (λ h. leads_stop _ _ _ [] rest rest ((section_lines view octets c.args.values.now 0 (elements_of (part_of view) octets))) refl c.loop-found.invariant.leads (unwritten _ []))

@@ -14,7 +14,7 @@ returns-clause-lines g c =
     let octets = c.args.octets.now in
     tells_behind c.report_lines.result _ _ _ (codes "<section>\n" ∷ []) (section_all view octets) c.in_ok-put_text.ensures.lines
     (subst (λ vs. Tells c.report_lines.result (g.W.Write.contents c.put_text.new.self.out) (g.W.Write.contents c.report_lines.new.printer.out) (section_lines view octets vs 0 (elements_of (part_of view) octets)))
-    (c.as_slice.ensures ∙ c.in_ok-values.ensures ∙ ap (λ p. refused_values p octets) c.part_of.ensures) c.report_lines.ensures.lines)
+    (c.as_slice.ensures.value ∙ c.in_ok-values.ensures ∙ ap (λ p. refused_values p octets) c.part_of.ensures) c.report_lines.ensures.lines)
 
 pub returns-in_err-put_text-clause-lines : goal.returns-in_err-put_text-clause-lines
 unfolding section_page
