@@ -11,6 +11,7 @@ mod dumps;
 mod groups;
 mod lenient;
 mod look_ups;
+mod refused;
 
 use x509_probe_show::Answer;
 
@@ -21,6 +22,7 @@ pub fn answer(word: &str, a: &[u8], b: &[u8], out: &mut Answer) -> bool {
         || columns::answer(word, a, out)
         || dumps::answer(word, a, out)
         || lenient::answer(word, a, out)
+        || refused::answer(word, a, out)
         || look_ups::answer(word, a, b, out)
         || groups::answer(word, a, out)
 }

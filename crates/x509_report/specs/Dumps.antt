@@ -1,5 +1,5 @@
--- The elements of an object, named by the reader that it is seen by, and a mark where that refuses it.
-use Rattle.std.specs.Prelude.{ℕ, ◌-◌, ◌&&◌, nat_lt, nat_le, Bool, true, List, [], ◌∷◌, ◌++◌, Option, Some, None, Result, Ok, Err, codes, length, map}
+-- The elements of an object, named by the reader that it is seen by, and marks where that refuses it, and where values of extensions are refused.
+use Rattle.std.specs.Prelude.{ℕ, suc, ◌+◌, ◌-◌, ◌&&◌, nat_lt, nat_le, Bool, true, List, [], ◌∷◌, ◌++◌, Option, Some, None, Result, Ok, Err, codes, drop, flat_map, length, take}
 use Rattle.std.specs.Prelude.{if◌then◌else◌}
 use Rattle.x509_certs.specs.Certificate.{certificate}
 use Rattle.x509_der.specs.Plan.{Outcome}
@@ -12,6 +12,8 @@ use Rattle.x509_dump.specs.Texts.{at_right, line_text}
 use Rattle.x509_fields.specs.Errors.{x509_word}
 use Rattle.x509_fields.specs.Fields.{Field}
 use Rattle.x509_fields.specs.declared.error.X509Error.{X509Error}
+use Rattle.x509_refused_values.specs.RefusedValues.{refused_values}
+use Rattle.x509_refused_values.specs.declared.refused_value.RefusedValue.{RefusedValue}
 use Rattle.x509_lists.specs.CertificateList.{certificate_list}
 use Rattle.x509_paths.specs.declared.part.Part.{Part}
 use Rattle.x509_paths.specs.declared.part.Part.TheVariants as parts
@@ -78,16 +80,57 @@ mark_behind (views.Refused part e) octets = if nat_le (length octets) e.at then 
 mark_behind views.Nothing octets = []
 mark_behind (views.Taken part) octets = []
 
-abbrev pub marked : View → Line → List ℕ
-marked view l = line_text l ++ mark_in view l
+-- ---- values of extensions that can't be read
 
-abbrev pub element_lines : View → List ℕ → List (List ℕ)
-element_lines view octets = map (λ l. marked view l) (elements_of (part_of view) octets)
+-- the octet below whose line such a value is marked: that at which it is refused, and where it ends before that the one before
+abbrev pub held : RefusedValue → ℕ
+held v = if nat_lt (v.at - v.value_at) v.value_size then v.at else v.at - 1
 
--- what is told of a line that was found; nothing where memory was refused
-abbrev pub found_lines : {E : Type 0} → View → Result RustLine E → List (List ℕ)
-found_lines view (Ok line) = marked view (line_of line) ∷ []
-found_lines view (Err e) = []
+abbrev pub value_mark : RefusedValue → List ℕ
+value_mark v = at_right 5 v.at ++ (codes ":^ no extension value: " ++ (refusal_word x509_word v.why ++ codes "\n"))
+
+abbrev pub value_marks : List RefusedValue → List ℕ
+value_marks vs = flat_map value_mark vs
+
+-- how many of them, from the first on, are marked before an octet
+abbrev pub count_before : ℕ → List RefusedValue → ℕ
+count_before end [] = 0
+count_before end (v ∷ vs) = if nat_lt (held v) end then suc (count_before end vs) else 0
+
+-- of the values that are left those that are marked below a line, and those that are left behind it
+abbrev pub count_in : Line → List RefusedValue → ℕ
+count_in l vs = count_before (l.offset + length l.octets) vs
+
+abbrev pub values_in : Line → List RefusedValue → List RefusedValue
+values_in l vs = take (count_in l vs) vs
+
+abbrev pub values_behind : Line → List RefusedValue → List RefusedValue
+values_behind l vs = drop (count_in l vs) vs
+
+-- ---- lines with their marks
+
+abbrev pub marked : View → List RefusedValue → Line → List ℕ
+marked view vs l = line_text l ++ (mark_in view l ++ value_marks (values_in l vs))
+
+-- behind the last line
+unfoldable pub marks_behind : View → List ℕ → List RefusedValue → List ℕ
+marks_behind view octets vs = value_marks vs ++ mark_behind view octets
+
+unfoldable pub marked_lines : View → List ℕ → List RefusedValue → List Line → List (List ℕ)
+marked_lines view octets vs [] = marks_behind view octets vs ∷ []
+marked_lines view octets vs (l ∷ ls) = marked view vs l ∷ marked_lines view octets (values_behind l vs) ls
+
+abbrev pub refused_in : View → List ℕ → List RefusedValue
+refused_in view octets = refused_values (part_of view) octets
+
+-- what is told of a line that was found, and which values are left behind it; nothing where memory was refused
+abbrev pub found_lines : {E : Type 0} → View → List RefusedValue → Result RustLine E → List (List ℕ)
+found_lines view vs (Ok line) = marked view vs (line_of line) ∷ []
+found_lines view vs (Err e) = []
+
+abbrev pub count_found : {E : Type 0} → List RefusedValue → Result RustLine E → ℕ
+count_found vs (Ok line) = count_in (line_of line) vs
+count_found vs (Err e) = 0
 
 unfoldable pub dump_lines : View → List ℕ → List (List ℕ)
-dump_lines view octets = element_lines view octets ++ (mark_behind view octets ∷ [])
+dump_lines view octets = marked_lines view octets (refused_in view octets) (elements_of (part_of view) octets)

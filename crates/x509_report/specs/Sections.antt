@@ -1,5 +1,5 @@
 -- The elements of an object in a page: a line each, parts that fold, a mark where a reader refuses, and the octets.
-use Rattle.std.specs.Prelude.{ℕ, nat_le, List, [], ◌∷◌, ◌++◌, Result, Ok, Err, codes, length, if◌then◌else◌}
+use Rattle.std.specs.Prelude.{ℕ, nat_le, List, [], ◌∷◌, ◌++◌, Result, Ok, Err, codes, flat_map, length, if◌then◌else◌}
 use Rattle.x509_der.specs.Words.{refusal_word}
 use Rattle.x509_der.specs.declared.error.Located.{Located}
 use Rattle.x509_dump.specs.Elements.{Line, elements_of, line_of}
@@ -9,7 +9,8 @@ use Rattle.x509_fields.specs.declared.error.X509Error.{X509Error}
 use Rattle.x509_paths.specs.declared.part.Part.{Part}
 use Rattle.x509_dump.specs.PageElements.{closings, element_page, mark_page, open_behind}
 use Rattle.x509_dump.specs.PageOctets.{octets_page}
-use Rattle.x509_report.specs.Dumps.{dump_lines, holds, part_of, part_word}
+use Rattle.x509_refused_values.specs.declared.refused_value.RefusedValue.{RefusedValue}
+use Rattle.x509_report.specs.Dumps.{dump_lines, holds, part_of, part_word, refused_in, values_behind, values_in}
 use Rattle.x509_report.specs.declared.dumps.View.{View}
 use Rattle.x509_report.specs.declared.dumps.View.TheVariants as views
 use Rattle.x509_report.specs.declared.options.Form.{Form}
@@ -33,30 +34,39 @@ mark_behind (views.Refused part e) octets = if nat_le (length octets) e.at then 
 mark_behind views.Nothing octets = []
 mark_behind (views.Taken part) octets = []
 
+abbrev pub value_words : RefusedValue → List ℕ
+value_words v = codes "no extension value: " ++ refusal_word x509_word v.why
+
+abbrev pub value_mark : RefusedValue → List ℕ
+value_mark v = mark_page v.at (value_words v)
+
+abbrev pub value_marks : List RefusedValue → List ℕ
+value_marks vs = flat_map value_mark vs
+
 -- a line where so many parts are open
-abbrev pub section_line : View → ℕ → Line → List ℕ
-section_line view opened l = element_page opened l ++ mark_in view l
+abbrev pub section_line : View → List RefusedValue → ℕ → Line → List ℕ
+section_line view vs opened l = element_page opened l ++ (mark_in view l ++ value_marks (values_in l vs))
 
 -- behind the last line all parts end
-unfoldable pub section_end : View → List ℕ → ℕ → List ℕ
-section_end view octets opened = closings opened ++ (mark_behind view octets ++ (octets_page octets ++ codes "</section>\n"))
+unfoldable pub section_end : View → List ℕ → List RefusedValue → ℕ → List ℕ
+section_end view octets vs opened = closings opened ++ (value_marks vs ++ (mark_behind view octets ++ (octets_page octets ++ codes "</section>\n")))
 
 -- lines where so many parts are open, and what stands behind the last
-unfoldable pub section_lines : View → List ℕ → ℕ → List Line → List (List ℕ)
-section_lines view octets opened [] = section_end view octets opened ∷ []
-section_lines view octets opened (l ∷ ls) = section_line view opened l ∷ section_lines view octets (open_behind l) ls
+unfoldable pub section_lines : View → List ℕ → List RefusedValue → ℕ → List Line → List (List ℕ)
+section_lines view octets vs opened [] = section_end view octets vs opened ∷ []
+section_lines view octets vs opened (l ∷ ls) = section_line view vs opened l ∷ section_lines view octets (values_behind l vs) (open_behind l) ls
 
 -- what is told of a line that was found; nothing where memory was refused
-abbrev pub found_section : {E : Type 0} → View → ℕ → Result RustLine E → List (List ℕ)
-found_section view opened (Ok line) = section_line view opened (line_of line) ∷ []
-found_section view opened (Err e) = []
+abbrev pub found_section : {E : Type 0} → View → List RefusedValue → ℕ → Result RustLine E → List (List ℕ)
+found_section view vs opened (Ok line) = section_line view vs opened (line_of line) ∷ []
+found_section view vs opened (Err e) = []
 
 abbrev pub opened_by : {E : Type 0} → Result RustLine E → ℕ
 opened_by (Ok line) = open_behind (line_of line)
 opened_by (Err e) = 0
 
 abbrev pub section_all : View → List ℕ → List (List ℕ)
-section_all view octets = section_lines view octets 0 (elements_of (part_of view) octets)
+section_all view octets = section_lines view octets (refused_in view octets) 0 (elements_of (part_of view) octets)
 
 unfoldable pub section_page : View → List ℕ → List (List ℕ)
 section_page view octets = codes "<section>\n" ∷ section_all view octets

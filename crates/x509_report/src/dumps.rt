@@ -1,12 +1,14 @@
 //! The elements of an object, a line each.
 
-ghost use Rattle.std.specs.Prelude.{◌≡◌, ◌++◌, IfOk, IsOk, OnOk, string_bytes, true};
+ghost use Rattle.std.specs.Prelude.{◌≡◌, ◌++◌, ◌+◌, ◌≤◌, drop, length, nat_lt, IfOk, IsOk, OnOk, string_bytes, true};
 ghost use Rattle.x509_certs.specs.Certificate.{certificate};
 ghost use Rattle.x509_lists.specs.CertificateList.{certificate_list};
 ghost use Rattle.x509_requests.specs.Request.{certification_request};
-ghost use Rattle.x509_dump.specs.Elements.{line_of};
+ghost use Rattle.x509_dump.specs.Elements.{elements_of, line_of};
+ghost use Rattle.x509_dump.specs.Texts.{line_text};
 ghost use Rattle.x509_report_objects.specs.Attempts.{wishes_of};
-ghost use Rattle.x509_report.specs.Dumps.{dump_lines, element_lines, found_lines, holds, mark_behind, mark_in, mark_text, marked, part_of, part_word};
+ghost use Rattle.x509_report.specs.Dumps.{count_found, count_in, dump_lines, found_lines, held, holds, mark_behind, mark_in, mark_text};
+ghost use Rattle.x509_report.specs.Dumps.{marked_lines, marks_behind, part_of, part_word, value_mark, value_marks};
 ghost use Rattle.x509_report.specs.Dumps.{refusal_of, seen_by, seen_where, view_of};
 ghost use Rattle.x509_report.specs.Told.{Tells};
 
@@ -18,6 +20,7 @@ use x509_certs::{parse_x509_certificate_located, parse_x509_certificate_marked};
 use x509_der::Located;
 use x509_dump::{DumpLine, dump, push_line};
 use x509_fields::X509Error;
+use x509_refused_values::{RefusedValue, refused_values};
 use x509_lists::{parse_x509_crl_located, parse_x509_crl_marked};
 use x509_paths::Part;
 use x509_report_objects::Wishes;
@@ -216,56 +219,142 @@ fn push_mark_behind(text: &mut String, view: &View, octets: &[u8]) -> Result<(),
     }
 }
 
-/// A line, and the mark below it.
-#[tactic(auto, using(crate::proofs::ElementLines::texts))]
-fn text_of(alloc: Global, view: &View, line: &DumpLine<'_>) -> Result<String, AllocError>
-    ensures { IfOk result (λ text. string_bytes text ≡ marked view.now (line_of line.now)) }
+/// The octet below whose line a value is marked: that at which it is refused, and where it ends before that the one before.
+fn held(value: &RefusedValue) -> usize
+    ensures { result ≡ held value.now }
 {
-    let mut text = String::new(alloc);
-    push_line(alloc, &mut text, line)?;
-    push_mark_in(&mut text, view, line)?;
-    Ok(text)
+    if value.at.saturating_sub(value.value_at) < value.value_size {
+        value.at
+    } else {
+        value.at.saturating_sub(1)
+    }
 }
 
-/// A line, where memory was there for it.
-fn report_found<W: Write>(
-    alloc: Global,
-    printer: &mut Printer<W>,
-    view: &View,
-    found: Result<DumpLine<'_>, AllocError>,
-) -> Result<(), Stop>
-    ensures lines { Tells result (W.contents printer.old.out) (W.contents printer.new.out) (found_lines view.now found.entry) }
-    ensures found { OnOk result (IsOk found.entry) }
-    ensures form { printer.new.form ≡ printer.old.form }
+/// Whether an octet stands before the end of a line.
+fn is_before(octet: usize, line: &DumpLine<'_>) -> bool
+    ensures { result ≡ nat_lt octet ((line_of line.now).offset + length (line_of line.now).octets) }
 {
-    let line = found?;
-    let text = text_of(alloc, view, &line)?;
-    printer.put_text(text.as_str())
+    octet < line.offset || octet - line.offset < line.octets.len()
 }
 
-/// The lines of the elements.
-fn report_lines<W: Write>(
-    alloc: Global,
-    printer: &mut Printer<W>,
-    view: &View,
-    octets: &[u8],
-) -> Result<(), Stop>
-    ensures lines { Tells result (W.contents printer.old.out) (W.contents printer.new.out) (element_lines view.now octets.now) }
-    ensures form { printer.new.form ≡ printer.old.form }
+/// How many of the values, from the first on, are marked below a line.
+pub fn count_in(values: &[RefusedValue], line: &DumpLine<'_>) -> usize
+    ensures count { result ≡ count_in (line_of line.now) values.now }
+    ensures within { result ≤ length values.now }
 {
-    for found in dump(alloc, part_of(view), octets) {
-        report_found(alloc, printer, view, found)?;
+    let mut count = 0;
+    for value in values {
+        if !is_before(held(value), line) {
+            return count;
+        }
+        count += 1;
+    }
+    count
+}
+
+/// The values behind the first ones.
+pub fn behind(values: &[RefusedValue], count: usize) -> &[RefusedValue]
+    ensures { result.now ≡ drop count values.now }
+{
+    if count <= values.len() {
+        &values[count..]
+    } else {
+        &[]
+    }
+}
+
+/// Adds a line that marks where a value is refused.
+fn push_value_mark(text: &mut String, value: &RefusedValue) -> Result<(), AllocError>
+    ensures { OnOk result (string_bytes text.new ≡ string_bytes text.old ++ value_mark value.now) }
+{
+    let at = value.at;
+    let word = value.why.word();
+    write!(text, "{at:>5}:^ no extension value: {word}\n")
+}
+
+/// Adds a line for each value.
+fn push_value_marks(text: &mut String, values: &[RefusedValue]) -> Result<(), AllocError>
+    ensures { OnOk result (string_bytes text.new ≡ string_bytes text.old ++ value_marks values.now) }
+{
+    for value in values {
+        push_value_mark(text, value)?;
     }
     Ok(())
 }
 
-/// The mark behind the last line, where the octet is none of the object.
-fn text_behind(alloc: Global, view: &View, octets: &[u8]) -> Result<String, AllocError>
-    ensures { IfOk result (λ text. string_bytes text ≡ mark_behind view.now octets.now) }
+/// A line, and below it the mark of the object and those of values.
+#[tactic(auto, using(crate::proofs::ElementLines::texts))]
+fn text_of(
+    alloc: Global,
+    view: &View,
+    values: &[RefusedValue],
+    line: &DumpLine<'_>,
+) -> Result<String, AllocError>
+    ensures { IfOk result (λ text. string_bytes text ≡ line_text (line_of line.now) ++ (mark_in view.now (line_of line.now) ++ value_marks values.now)) }
 {
     let mut text = String::new(alloc);
+    push_line(alloc, &mut text, line)?;
+    push_mark_in(&mut text, view, line)?;
+    push_value_marks(&mut text, values)?;
+    Ok(text)
+}
+
+/// A line, where memory was there for it, with the marks of those of the values that stand below it. Tells how many these are.
+fn report_found<W: Write>(
+    alloc: Global,
+    printer: &mut Printer<W>,
+    view: &View,
+    values: &[RefusedValue],
+    found: Result<DumpLine<'_>, AllocError>,
+) -> Result<usize, Stop>
+    ensures lines { Tells result (W.contents printer.old.out) (W.contents printer.new.out) (found_lines view.now values.now found.entry) }
+    ensures found { OnOk result (IsOk found.entry) }
+    ensures count { IfOk result (λ n. n ≡ count_found values.now found.entry) }
+    ensures within { IfOk result (λ n. n ≤ length values.now) }
+    ensures form { printer.new.form ≡ printer.old.form }
+{
+    let line = found?;
+    let count = count_in(values, &line);
+    let text = text_of(alloc, view, &values[..count], &line)?;
+    printer.put_text(text.as_str())?;
+    Ok(count)
+}
+
+/// The marks behind the last line: of values that are left, and of the object where the octet is none of it.
+#[tactic(auto, unfolding(crate::specs::Dumps::marks_behind))]
+fn text_behind(
+    alloc: Global,
+    view: &View,
+    values: &[RefusedValue],
+    octets: &[u8],
+) -> Result<String, AllocError>
+    ensures { IfOk result (λ text. string_bytes text ≡ marks_behind view.now octets.now values.now) }
+{
+    let mut text = String::new(alloc);
+    push_value_marks(&mut text, values)?;
     push_mark_behind(&mut text, view, octets)?;
     Ok(text)
+}
+
+/// The lines of the elements, and the marks behind the last.
+fn report_lines<W: Write>(
+    alloc: Global,
+    printer: &mut Printer<W>,
+    view: &View,
+    values: &[RefusedValue],
+    octets: &[u8],
+) -> Result<(), Stop>
+    ensures lines { Tells result (W.contents printer.old.out) (W.contents printer.new.out)
+        (marked_lines view.now octets.now values.now (elements_of (part_of view.now) octets.now)) }
+    ensures form { printer.new.form ≡ printer.old.form }
+{
+    let mut left = values;
+    for found in dump(alloc, part_of(view), octets) {
+        let count = report_found(alloc, printer, view, left, found)?;
+        left = behind(left, count);
+    }
+    let behind = text_behind(alloc, view, left, octets)?;
+    printer.put_text(behind.as_str())
 }
 
 /// The elements of an object as it is seen.
@@ -278,7 +367,6 @@ pub fn report_view<W: Write>(
     ensures lines { Tells result (W.contents printer.old.out) (W.contents printer.new.out) (dump_lines view.now octets.now) }
     ensures form { printer.new.form ≡ printer.old.form }
 {
-    report_lines(alloc, printer, view, octets)?;
-    let behind = text_behind(alloc, view, octets)?;
-    printer.put_text(behind.as_str())
+    let values = refused_values(alloc, part_of(view), octets)?;
+    report_lines(alloc, printer, view, values.as_slice(), octets)
 }

@@ -1,15 +1,15 @@
 //! The elements of an object in a page, or as lines.
 
-ghost use Rattle.std.specs.Prelude.{◌≡◌, ◌++◌, IfOk, IsOk, OnOk, string_bytes};
-ghost use Rattle.x509_dump.specs.Elements.{line_of};
+ghost use Rattle.std.specs.Prelude.{◌≡◌, ◌++◌, ◌≤◌, length, IfOk, IsOk, OnOk, string_bytes};
+ghost use Rattle.x509_dump.specs.Elements.{elements_of, line_of};
 ghost use Rattle.x509_report_objects.specs.Attempts.{wishes_of};
-ghost use Rattle.x509_dump.specs.PageElements.{open_behind};
-ghost use Rattle.x509_report.specs.Dumps.{view_of};
-ghost use Rattle.x509_report.specs.Sections.{dump_told, found_section, mark_at, mark_behind, mark_in, mark_words, opened_by, section_end, section_line};
-ghost use Rattle.x509_report.specs.Sections.{section_all, section_page};
+ghost use Rattle.x509_dump.specs.PageElements.{element_page, open_behind};
+ghost use Rattle.x509_report.specs.Dumps.{count_found, part_of, view_of};
+ghost use Rattle.x509_report.specs.Sections.{dump_told, found_section, mark_at, mark_behind, mark_in, mark_words, opened_by, section_end};
+ghost use Rattle.x509_report.specs.Sections.{section_lines, section_page, value_mark, value_marks, value_words};
 ghost use Rattle.x509_report.specs.Told.{Tells};
 
-use crate::dumps::{View, holds, part_of, part_word, report_view, view_of};
+use crate::dumps::{View, behind, count_in, holds, part_of, part_word, report_view, view_of};
 use crate::options::Form;
 use crate::printer::Printer;
 use crate::stop::Stop;
@@ -19,6 +19,7 @@ use x509_der::Located;
 use x509_dump::page::{push_closings, push_element, push_mark, push_octets};
 use x509_dump::{DumpLine, dump};
 use x509_fields::X509Error;
+use x509_refused_values::{RefusedValue, refused_values};
 use x509_paths::Part;
 use x509_report_objects::Wishes;
 
@@ -29,6 +30,14 @@ fn mark_words(alloc: Global, part: Part, refusal: &Located<X509Error>) -> Result
     let kind = part_word(part);
     let word = refusal.why.word();
     format!(in alloc; "no {kind}: {word}")
+}
+
+/// Why a value is refused, in words.
+fn value_words(alloc: Global, value: &RefusedValue) -> Result<String, AllocError>
+    ensures { IfOk result (λ text. string_bytes text ≡ value_words value.now) }
+{
+    let word = value.why.word();
+    format!(in alloc; "no extension value: {word}")
 }
 
 /// Adds a mark where a reader refuses.
@@ -82,67 +91,105 @@ fn push_mark_behind(
     }
 }
 
-/// A line where so many parts are open, and the mark below it. Tells how many are open behind it.
+/// Adds a mark where a value is refused.
+fn push_value_mark(alloc: Global, page: &mut String, value: &RefusedValue) -> Result<(), AllocError>
+    ensures { OnOk result (string_bytes page.new ≡ string_bytes page.old ++ value_mark value.now) }
+{
+    let words = value_words(alloc, value)?;
+    push_mark(alloc, page, value.at, words.as_str())
+}
+
+/// Adds a mark for each value.
+fn push_value_marks(
+    alloc: Global,
+    page: &mut String,
+    values: &[RefusedValue],
+) -> Result<(), AllocError>
+    ensures { OnOk result (string_bytes page.new ≡ string_bytes page.old ++ value_marks values.now) }
+{
+    for value in values {
+        push_value_mark(alloc, page, value)?;
+    }
+    Ok(())
+}
+
+/// A line where so many parts are open, and below it the mark of the object and those of values. Tells how many are open behind it.
 #[tactic(auto, using(crate::proofs::ElementLines::texts))]
 fn line_text(
     alloc: Global,
     view: &View,
+    values: &[RefusedValue],
     opened: usize,
     line: &DumpLine<'_>,
 ) -> Result<(String, usize), AllocError>
-    ensures page { IfOk result (λ r. string_bytes r.0 ≡ section_line view.now opened (line_of line.now)) }
+    ensures page { IfOk result (λ r. string_bytes r.0
+        ≡ element_page opened (line_of line.now) ++ (mark_in view.now (line_of line.now) ++ value_marks values.now)) }
     ensures opened { IfOk result (λ r. r.1 ≡ open_behind (line_of line.now)) }
 {
     let mut page = String::new(alloc);
     let behind = push_element(alloc, &mut page, opened, line)?;
     push_mark_in(alloc, &mut page, view, line)?;
+    push_value_marks(alloc, &mut page, values)?;
     Ok((page, behind))
 }
 
-/// Adds what stands behind the last line, where so many parts are open.
+/// Adds what stands behind the last line, where so many parts are open and these values are left.
 #[tactic(auto, unfolding(crate::specs::Sections::section_end))]
 fn push_end(
     alloc: Global,
     page: &mut String,
     view: &View,
     octets: &[u8],
+    values: &[RefusedValue],
     opened: usize,
 ) -> Result<(), AllocError>
-    ensures { OnOk result (string_bytes page.new ≡ string_bytes page.old ++ section_end view.now octets.now opened) }
+    ensures { OnOk result (string_bytes page.new ≡ string_bytes page.old ++ section_end view.now octets.now values.now opened) }
 {
     push_closings(page, opened)?;
+    push_value_marks(alloc, page, values)?;
     push_mark_behind(alloc, page, view, octets)?;
     push_octets(page, octets)?;
     page.push_str("</section>\n")?;
     Ok(())
 }
 
-/// What stands behind the last line, where so many parts are open.
-fn end_text(alloc: Global, view: &View, octets: &[u8], opened: usize) -> Result<String, AllocError>
-    ensures { IfOk result (λ text. string_bytes text ≡ section_end view.now octets.now opened) }
+/// What stands behind the last line, where so many parts are open and these values are left.
+fn end_text(
+    alloc: Global,
+    view: &View,
+    octets: &[u8],
+    values: &[RefusedValue],
+    opened: usize,
+) -> Result<String, AllocError>
+    ensures { IfOk result (λ text. string_bytes text ≡ section_end view.now octets.now values.now opened) }
 {
     let mut page = String::new(alloc);
-    push_end(alloc, &mut page, view, octets, opened)?;
+    push_end(alloc, &mut page, view, octets, values, opened)?;
     Ok(page)
 }
 
-/// A line that was found, where so many parts are open. Tells how many are open behind it.
+/// A line that was found, where so many parts are open, with the marks of those of the values that stand below it. Tells how many parts are
+/// open behind it, and how many values these are.
 fn report_found<W: Write>(
     alloc: Global,
     printer: &mut Printer<W>,
     view: &View,
+    values: &[RefusedValue],
     opened: usize,
     found: Result<DumpLine<'_>, AllocError>,
-) -> Result<usize, Stop>
-    ensures lines { Tells result (W.contents printer.old.out) (W.contents printer.new.out) (found_section view.now opened found.entry) }
+) -> Result<(usize, usize), Stop>
+    ensures lines { Tells result (W.contents printer.old.out) (W.contents printer.new.out) (found_section view.now values.now opened found.entry) }
     ensures found { OnOk result (IsOk found.entry) }
-    ensures opened { IfOk result (λ n. n ≡ opened_by found.entry) }
+    ensures opened { IfOk result (λ r. r.0 ≡ opened_by found.entry) }
+    ensures count { IfOk result (λ r. r.1 ≡ count_found values.now found.entry) }
+    ensures within { IfOk result (λ r. r.1 ≤ length values.now) }
     ensures form { printer.new.form ≡ printer.old.form }
 {
     let line = found?;
-    let (text, behind) = line_text(alloc, view, opened, &line)?;
+    let count = count_in(values, &line);
+    let (text, behind) = line_text(alloc, view, &values[..count], opened, &line)?;
     printer.put_text(text.as_str())?;
-    Ok(behind)
+    Ok((behind, count))
 }
 
 /// The lines of the elements, and what stands behind the last.
@@ -150,16 +197,21 @@ fn report_lines<W: Write>(
     alloc: Global,
     printer: &mut Printer<W>,
     view: &View,
+    values: &[RefusedValue],
     octets: &[u8],
 ) -> Result<(), Stop>
-    ensures lines { Tells result (W.contents printer.old.out) (W.contents printer.new.out) (section_all view.now octets.now) }
+    ensures lines { Tells result (W.contents printer.old.out) (W.contents printer.new.out)
+        (section_lines view.now octets.now values.now 0 (elements_of (part_of view.now) octets.now)) }
     ensures form { printer.new.form ≡ printer.old.form }
 {
+    let mut left = values;
     let mut opened = 0;
     for found in dump(alloc, part_of(view), octets) {
-        opened = report_found(alloc, printer, view, opened, found)?;
+        let (next, count) = report_found(alloc, printer, view, left, opened, found)?;
+        left = behind(left, count);
+        opened = next;
     }
-    let text = end_text(alloc, view, octets, opened)?;
+    let text = end_text(alloc, view, octets, left, opened)?;
     printer.put_text(text.as_str())
 }
 
@@ -173,8 +225,9 @@ fn report_section<W: Write>(
     ensures lines { Tells result (W.contents printer.old.out) (W.contents printer.new.out) (section_page view.now octets.now) }
     ensures form { printer.new.form ≡ printer.old.form }
 {
+    let values = refused_values(alloc, part_of(view), octets)?;
     printer.put_text("<section>\n")?;
-    report_lines(alloc, printer, view, octets)
+    report_lines(alloc, printer, view, values.as_slice(), octets)
 }
 
 /// The elements of an object, named by the reader that it is seen by, and a mark where that refuses it.

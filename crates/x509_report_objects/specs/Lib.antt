@@ -4,6 +4,7 @@ pub mod Extensions
 pub mod Certificates
 pub mod Lists
 pub mod Requests
+pub mod RefusedValues
 pub mod Objects
 pub mod Attempts
 pub mod Algorithms

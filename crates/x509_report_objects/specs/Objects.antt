@@ -25,15 +25,17 @@ use Rattle.x509_report_objects.specs.Certificates.{certificate_members}
 use Rattle.x509_report_objects.specs.Errors.{refusal_name}
 use Rattle.x509_report_objects.specs.Lists.{list_members}
 use Rattle.x509_report_objects.specs.Places.{Found, Wishes, place_members, octets_members}
+use Rattle.x509_report_objects.specs.RefusedValues.{refused_members, some_text}
 use Rattle.x509_report_objects.specs.Requests.{request_members}
 
 -- whether it stands plainly, and how many octets stand behind it
 abbrev pub standing_members : Bool → List ℕ → List (List ℕ × Json)
 standing_members plain rest = (codes "strict", boolean plain) ∷ (codes "behind", count (length rest)) ∷ []
 
-unfoldable pub object_report : List ℕ → Wishes → Found → List ℕ → Bool → List ℕ → List (List ℕ × Json) → Json
-object_report kind w p octets plain rest members = record_of (
-    place_members kind p ++ octets_members w.fingerprints p octets ++ standing_members plain rest ++ members)
+-- the object's own members, and behind them the values of its extensions that can't be read
+unfoldable pub object_report : List ℕ → Part → Wishes → Found → List ℕ → Bool → List ℕ → List (List ℕ × Json) → Json
+object_report kind part w p octets plain rest members = record_of (
+    place_members kind p ++ octets_members w.fingerprints p octets ++ standing_members plain rest ++ members ++ refused_members part octets)
 
 -- ---- which report stands for an object: that of the first reader that takes it
 
@@ -54,11 +56,6 @@ attempt_report kind error word at path = record_of (
     (codes "word", string word) ∷
     (codes "at", optional count at) ∷
     (codes "path", optional (λ s. string s) path) ∷ [])
-
--- a text that has a character
-abbrev pub some_text : List ℕ → Option (List ℕ)
-some_text [] = None
-some_text (c ∷ cs) = Some (c ∷ cs)
 
 -- a reader of a kind that was tried, and why it refuses
 pub record Attempted : Type 0 where
@@ -116,15 +113,15 @@ abbrev pub refused_told : {A : Type 0} → Field A → List ℕ → Refusal X509
 refused_told field octets e = Err (record { why = e; at = refused_at field octets })
 
 abbrev pub certificate_told : Wishes → Found → List ℕ → Outcome (Refusal X509Error) Certificate → Told
-certificate_told w p octets (Ok x) = told_by w ((certificate true).marks octets) (object_report (codes "certificate") w p octets ((certificate true).marks octets) x.0 (certificate_members w.fingerprints x.1))
+certificate_told w p octets (Ok x) = told_by w ((certificate true).marks octets) (object_report (codes "certificate") parts.Certificate w p octets ((certificate true).marks octets) x.0 (certificate_members w.fingerprints x.1))
 certificate_told w p octets (Err e) = refused_told (certificate true) octets e
 
 abbrev pub list_told : Wishes → Found → List ℕ → Outcome (Refusal X509Error) (Signed TbsList) → Told
-list_told w p octets (Ok x) = told_by w (certificate_list.marks octets) (object_report (codes "list") w p octets (certificate_list.marks octets) x.0 (list_members x.1))
+list_told w p octets (Ok x) = told_by w (certificate_list.marks octets) (object_report (codes "list") parts.List w p octets (certificate_list.marks octets) x.0 (list_members x.1))
 list_told w p octets (Err e) = refused_told certificate_list octets e
 
 abbrev pub request_told : Wishes → Found → List ℕ → Outcome (Refusal X509Error) (Signed RequestInfo) → Told
-request_told w p octets (Ok x) = told_by w (certification_request.marks octets) (object_report (codes "request") w p octets (certification_request.marks octets) x.0 (request_members w.fingerprints x.1))
+request_told w p octets (Ok x) = told_by w (certification_request.marks octets) (object_report (codes "request") parts.Request w p octets (certification_request.marks octets) x.0 (request_members w.fingerprints x.1))
 request_told w p octets (Err e) = refused_told certification_request octets e
 
 -- the reader's report with its kind, or what comes next behind its refusal

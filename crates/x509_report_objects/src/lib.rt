@@ -6,6 +6,7 @@ mod errors;
 mod extensions;
 mod lists;
 mod objects;
+mod refused;
 mod requests;
 mod summary;
 mod values;

@@ -7,7 +7,7 @@ ghost use Rattle.x509_lists.specs.CertificateList.{certificate_list, list_of};
 ghost use Rattle.x509_requests.specs.Request.{certification_request, certification_request_of};
 ghost use Rattle.x509_report_lines.specs.Says.{Says, SaysEach, SaysMembers, SaysUnder, count, items_of, list_of as array_of, optional, written};
 ghost use Rattle.x509_report_objects.specs.Objects.{all_tried, attempt_report, certificate_told, failed_report, list_told, object_told};
-ghost use Rattle.x509_report_objects.specs.Objects.{object_report, refusal_report, request_told, skipped_report, some_text, standing_members, tried_by};
+ghost use Rattle.x509_report_objects.specs.Objects.{object_report, refusal_report, request_told, skipped_report, standing_members, tried_by};
 ghost use Rattle.x509_report_objects.specs.Objects.{tried_report};
 ghost use Rattle.x509_report_objects.specs.Certificates.{certificate_members};
 ghost use Rattle.x509_report_objects.specs.Lists.{list_members};
@@ -18,6 +18,7 @@ ghost use Rattle.x509_report_objects.specs.Attempts.{Attempts, found_of, refused
 use crate::certificates::certificate_members;
 use crate::errors::refusal_name;
 use crate::lists::list_members;
+use crate::refused::{refused_under, some_text};
 use crate::requests::request_members;
 use crate::values::{
     count_under, fingerprint_under, null_under, optional_text_under, text_under, truth_under,
@@ -158,7 +159,7 @@ fn say_certificate(
     seen: &Seen<'_>,
     certificate: &X509Certificate<'_>,
 ) -> Result<(), AllocError>
-    ensures { Says result out.old out.new (object_report (codes "certificate") (wishes_of wishes.now) (found_of place.now) seen.now.octets.now seen.now.plain
+    ensures { Says result out.old out.new (object_report (codes "certificate") Part.Certificate (wishes_of wishes.now) (found_of place.now) seen.now.octets.now seen.now.plain
         seen.now.rest.now (certificate_members wishes.now.fingerprints (certificate_of certificate.now))) }
 {
     out.begin_object()?;
@@ -166,6 +167,7 @@ fn say_certificate(
     say_octets(alloc, out, wishes.fingerprints, place, seen.octets)?;
     say_standing(out, seen.plain, seen.rest)?;
     certificate_members(alloc, out, wishes.fingerprints, certificate)?;
+    refused_under(alloc, out, "refused_values", Part::Certificate, seen.octets)?;
     out.end_object()?;
     Ok(())
 }
@@ -218,7 +220,7 @@ fn say_list(
     seen: &Seen<'_>,
     list: &CertificateRevocationList<'_>,
 ) -> Result<(), AllocError>
-    ensures { Says result out.old out.new (object_report (codes "list") (wishes_of wishes.now) (found_of place.now) seen.now.octets.now seen.now.plain
+    ensures { Says result out.old out.new (object_report (codes "list") Part.List (wishes_of wishes.now) (found_of place.now) seen.now.octets.now seen.now.plain
         seen.now.rest.now (list_members (list_of list.now))) }
 {
     out.begin_object()?;
@@ -226,6 +228,7 @@ fn say_list(
     say_octets(alloc, out, wishes.fingerprints, place, seen.octets)?;
     say_standing(out, seen.plain, seen.rest)?;
     list_members(alloc, out, list)?;
+    refused_under(alloc, out, "refused_values", Part::List, seen.octets)?;
     out.end_object()?;
     Ok(())
 }
@@ -278,7 +281,7 @@ fn say_request(
     seen: &Seen<'_>,
     request: &X509CertificationRequest<'_>,
 ) -> Result<(), AllocError>
-    ensures { Says result out.old out.new (object_report (codes "request") (wishes_of wishes.now) (found_of place.now) seen.now.octets.now seen.now.plain
+    ensures { Says result out.old out.new (object_report (codes "request") Part.Request (wishes_of wishes.now) (found_of place.now) seen.now.octets.now seen.now.plain
         seen.now.rest.now (request_members wishes.now.fingerprints (certification_request_of request.now))) }
 {
     out.begin_object()?;
@@ -286,6 +289,7 @@ fn say_request(
     say_octets(alloc, out, wishes.fingerprints, place, seen.octets)?;
     say_standing(out, seen.plain, seen.rest)?;
     request_members(alloc, out, wishes.fingerprints, request)?;
+    refused_under(alloc, out, "refused_values", Part::Request, seen.octets)?;
     out.end_object()?;
     Ok(())
 }
@@ -357,13 +361,6 @@ fn say_attempt(
     optional_text_under(out, "path", path)?;
     out.end_object()?;
     Ok(())
-}
-
-/// A text, where it has a character.
-fn some_text(text: &str) -> Option<&str>
-    ensures { option_map (λ s. s.now) result ≡ some_text text.now }
-{
-    if text.is_empty() { None } else { Some(text) }
 }
 
 /// A reader that was tried, where it was, and why it refuses.

@@ -1,40 +1,74 @@
--- One line more.
-use Rattle.std.proofs.Common.{◌≡◌, map, refl, subst, sym, ap, ◌∙◌}
+-- One line more, and what stands behind the last.
+use Rattle.std.proofs.Common.{◌≡◌, ◌∷◌, [], ℕ, List, drop, refl, subst, sym, ap, ◌∙◌}
 use Rattle.x509_dump.specs.Elements.{elements_of}
 use Rattle.x509_dump.specs.Walks.{IsNext, left}
-use Rattle.x509_report.specs.Dumps.{element_lines, found_lines, marked, part_of}
+use Rattle.x509_report.specs.Dumps.{count_found, found_lines, marked_lines, marks_behind, part_of}
+use Rattle.x509_report.specs.Told.{Tells}
 use Rattle.x509_report.proofs.ElementLines.{found_next, found_stop}
-use Rattle.x509_report.proofs.Leads.{Leads, leads_start, leads_step, stops_by}
+use Rattle.x509_report.proofs.Leads.{Leads, leads_start, leads_step, leads_stop, stops_by, unwritten}
+use Rattle.x509_report.proofs.SectionLines.{tells_last}
 use Rattle.x509_report.proofs.dumps.report_lines.Goals as goal
 
 pub loop-found-init : goal.loop-found-init
 loop-found-init g c =
     let view = c.args.view.now in
     let octets = c.args.octets.now in
-    let whole = element_lines view octets in
+    let values = c.args.values.now in
+    let whole = marked_lines view octets values (elements_of (part_of view) octets) in
     let old = g.W.Write.contents c.args.printer.now.out in
     let same : c.into_iter-found-iterator.result ≡ c.dump-found-items.result = cc (c.into_iter-found-iterator.ensures.into_iter_gives) in
     let lines : left c.into_iter-found-iterator.result ≡ elements_of (part_of view) octets = ap left same ∙ c.dump-found-items.ensures.lines ∙ ap (λ p. elements_of p octets) c.part_of.ensures in
-    record { form = refl; leads = subst (λ ls. Leads old old ls whole) (ap (map (λ x. marked view x)) (sym lines)) (leads_start old whole) }
+    record { form = refl; leads = subst (λ ls. Leads old old ls whole) (ap (marked_lines view octets values) (sym lines)) (leads_start old whole) }
 
 pub loop-found-preserved : goal.loop-found-preserved
 loop-found-preserved g c =
     let view = c.args.view.now in
+    let octets = c.args.octets.now in
     let s = c.loop-found.found-iterator in
     let t = c.next.new.self in
+    let values = c.loop-found.left.now in
     let next : IsNext s c.in-Some.found t = c.in-Some.ensures.steps in
+    let whole = marked_lines view octets c.args.values.now (elements_of (part_of view) octets) in
+    let old = g.W.Write.contents c.args.printer.now.out in
+    let new = g.W.Write.contents c.report_found.new.printer.out in
+    let one = leads_step old _ new (found_lines view values c.in-Some.found) (marked_lines view octets (drop (count_found values c.in-Some.found) values) (left t)) (marked_lines view octets values (left s)) whole
+    (found_next view octets values s t c.in-Some.found next c.in_ok-count.ensures.found) c.loop-found.invariant.leads c.in_ok-count.ensures.lines in
     record {
-      form = c.in_ok-report_found.ensures.form ∙ c.loop-found.invariant.form;
-      leads = leads_step _ _ _ (found_lines view c.in-Some.found) (map (λ x. marked view x) (left t)) (map (λ x. marked view x) (left s)) (element_lines view c.args.octets.now)
-          (found_next view s t c.in-Some.found next c.in_ok-report_found.ensures.found) c.loop-found.invariant.leads c.in_ok-report_found.ensures.lines;
+      form = c.in_ok-count.ensures.form ∙ c.loop-found.invariant.form;
+      leads = subst (λ vs. Leads old new (marked_lines view octets vs (left t)) whole) (sym c.behind-left.ensures)
+          (subst (λ n. Leads old new (marked_lines view octets (drop n values) (left t)) whole) (sym c.in_ok-count.ensures.count) one);
     }
 
-pub returns-in_err-report_found-clause-lines : goal.returns-in_err-report_found-clause-lines
-returns-in_err-report_found-clause-lines g c =
+pub returns-in_err-count-clause-lines : goal.returns-in_err-count-clause-lines
+returns-in_err-count-clause-lines g c =
     let view = c.args.view.now in
+    let octets = c.args.octets.now in
     let s = c.loop-found.found-iterator in
     let t = c.next.new.self in
     let next : IsNext s c.in-Some.found t = c.in-Some.ensures.steps in
-    let whole = element_lines view c.args.octets.now in
+    let whole = marked_lines view octets c.args.values.now (elements_of (part_of view) octets) in
     stops_by c.from_residual.result _ _ _ whole c.from_residual.ensures.1
-    (λ h. found_stop view s t c.in-Some.found _ _ _ whole next c.loop-found.invariant.leads (c.in_err-report_found.ensures.lines h))
+    (λ h. found_stop view octets c.loop-found.left.now s t c.in-Some.found _ _ _ whole next c.loop-found.invariant.leads (c.in_err-count.ensures.lines h))
+
+pub returns-clause-lines : goal.returns-clause-lines
+unfolding marked_lines
+returns-clause-lines g c =
+    let view = c.args.view.now in
+    let octets = c.args.octets.now in
+    let values = c.loop-found.left.now in
+    let old = g.W.Write.contents c.args.printer.now.out in
+    let now = g.W.Write.contents c.loop-found.printer.out in
+    let new = g.W.Write.contents c.put_text.new.self.out in
+    let whole = marked_lines view octets c.args.values.now (elements_of (part_of view) octets) in
+    let none : left c.loop-found.found-iterator ≡ [] = c.in-None.ensures.steps in
+    let leads : Leads old now (marks_behind view octets values ∷ []) whole = subst (λ ls. Leads old now (marked_lines view octets values ls) whole) none c.loop-found.invariant.leads in
+    tells_last c.put_text.result old now new (marks_behind view octets values ∷ []) whole leads
+    (subst (λ (t : List ℕ). Tells c.put_text.result now new (t ∷ [])) (c.as_str.ensures.value ∙ c.in_ok-behind.ensures) c.put_text.ensures.lines)
+
+pub returns-in_err-behind-clause-lines : goal.returns-in_err-behind-clause-lines
+returns-in_err-behind-clause-lines g c =
+    let view = c.args.view.now in
+    let octets = c.args.octets.now in
+    let rest = marked_lines view octets c.loop-found.left.now (left c.loop-found.found-iterator) in
+    stops_by _ _ _ _ _ c.from_residual-in_err-behind.ensures.1
+    (λ h. leads_stop _ _ _ [] rest rest (marked_lines view octets c.args.values.now (elements_of (part_of view) octets)) refl c.loop-found.invariant.leads (unwritten _ []))

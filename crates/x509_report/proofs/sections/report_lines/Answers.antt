@@ -1,9 +1,9 @@
 -- One line more, and what stands behind the last.
-use Rattle.std.proofs.Common.{◌≡◌, ◌∷◌, [], ℕ, List, refl, subst, sym, ap, ◌∙◌}
+use Rattle.std.proofs.Common.{◌≡◌, ◌∷◌, [], ℕ, List, drop, refl, subst, sym, ap, ◌∙◌}
 use Rattle.x509_dump.specs.Elements.{elements_of}
 use Rattle.x509_dump.specs.Walks.{IsNext, left}
-use Rattle.x509_report.specs.Dumps.{part_of}
-use Rattle.x509_report.specs.Sections.{found_section, opened_by, section_all, section_end, section_lines}
+use Rattle.x509_report.specs.Dumps.{count_found, part_of}
+use Rattle.x509_report.specs.Sections.{found_section, opened_by, section_end, section_lines}
 use Rattle.x509_report.specs.Told.{Tells}
 use Rattle.x509_report.proofs.SectionLines.{found_next, found_stop, tells_last}
 use Rattle.x509_report.proofs.Leads.{Leads, leads_start, leads_step, leads_stop, stops_by, unwritten}
@@ -13,11 +13,11 @@ pub loop-found-init : goal.loop-found-init
 loop-found-init g c =
     let view = c.args.view.now in
     let octets = c.args.octets.now in
-    let whole = section_all view octets in
+    let whole = (section_lines view octets c.args.values.now 0 (elements_of (part_of view) octets)) in
     let old = g.W.Write.contents c.args.printer.now.out in
     let same : c.into_iter-found-iterator.result ≡ c.dump-found-items.result = cc (c.into_iter-found-iterator.ensures.into_iter_gives) in
     let lines : left c.into_iter-found-iterator.result ≡ elements_of (part_of view) octets = ap left same ∙ c.dump-found-items.ensures.lines ∙ ap (λ p. elements_of p octets) c.part_of.ensures in
-    record { form = refl; leads = subst (λ ls. Leads old old ls whole) (ap (section_lines view octets 0) (sym lines)) (leads_start old whole) }
+    record { form = refl; leads = subst (λ ls. Leads old old ls whole) (ap (section_lines view octets c.args.values.now 0) (sym lines)) (leads_start old whole) }
 
 pub loop-found-preserved : goal.loop-found-preserved
 loop-found-preserved g c =
@@ -27,25 +27,29 @@ loop-found-preserved g c =
     let t = c.next.new.self in
     let opened = c.loop-found.opened in
     let next : IsNext s c.in-Some.found t = c.in-Some.ensures.steps in
+    let whole = section_lines view octets c.args.values.now 0 (elements_of (part_of view) octets) in
     let old = g.W.Write.contents c.args.printer.now.out in
     let new = g.W.Write.contents c.report_found.new.printer.out in
-    let one = leads_step old _ new (found_section view opened c.in-Some.found) (section_lines view octets (opened_by c.in-Some.found) (left t)) (section_lines view octets opened (left s)) (section_all view octets)
-    (found_next view octets opened s t c.in-Some.found next c.in_ok-opened.ensures.found) c.loop-found.invariant.leads c.in_ok-opened.ensures.lines in
+    let values = c.loop-found.left.now in
+    let one = leads_step old _ new (found_section view values opened c.in-Some.found) (section_lines view octets (drop (count_found values c.in-Some.found) values) (opened_by c.in-Some.found) (left t)) (section_lines view octets values opened (left s)) ((section_lines view octets c.args.values.now 0 (elements_of (part_of view) octets)))
+    (found_next view octets values opened s t c.in-Some.found next c.in_ok-next.ensures.found) c.loop-found.invariant.leads c.in_ok-next.ensures.lines in
     record {
-      form = c.in_ok-opened.ensures.form ∙ c.loop-found.invariant.form;
-      leads = subst (λ n. Leads old new (section_lines view octets n (left t)) (section_all view octets)) (sym c.in_ok-opened.ensures.opened) one;
+      form = c.in_ok-next.ensures.form ∙ c.loop-found.invariant.form;
+      leads = subst (λ vs. Leads old new (section_lines view octets vs c.in_ok-next.next (left t)) whole) (sym c.behind-left.ensures)
+          (subst (λ n. Leads old new (section_lines view octets (drop n values) c.in_ok-next.next (left t)) whole) (sym c.in_ok-next.ensures.count)
+          (subst (λ n. Leads old new (section_lines view octets (drop (count_found values c.in-Some.found) values) n (left t)) whole) (sym c.in_ok-next.ensures.opened) one));
     }
 
-pub returns-in_err-opened-clause-lines : goal.returns-in_err-opened-clause-lines
-returns-in_err-opened-clause-lines g c =
+pub returns-in_err-next-clause-lines : goal.returns-in_err-next-clause-lines
+returns-in_err-next-clause-lines g c =
     let view = c.args.view.now in
     let octets = c.args.octets.now in
     let s = c.loop-found.found-iterator in
     let t = c.next.new.self in
     let next : IsNext s c.in-Some.found t = c.in-Some.ensures.steps in
-    let whole = section_all view octets in
+    let whole = (section_lines view octets c.args.values.now 0 (elements_of (part_of view) octets)) in
     stops_by c.from_residual.result _ _ _ whole c.from_residual.ensures.1
-    (λ h. found_stop view octets c.loop-found.opened s t c.in-Some.found _ _ _ whole next c.loop-found.invariant.leads (c.in_err-opened.ensures.lines h))
+    (λ h. found_stop view octets c.loop-found.left.now c.loop-found.opened s t c.in-Some.found _ _ _ whole next c.loop-found.invariant.leads (c.in_err-next.ensures.lines h))
 
 pub returns-clause-lines : goal.returns-clause-lines
 unfolding section_lines
@@ -56,16 +60,16 @@ returns-clause-lines g c =
     let old = g.W.Write.contents c.args.printer.now.out in
     let now = g.W.Write.contents c.loop-found.printer.out in
     let new = g.W.Write.contents c.put_text.new.self.out in
-    let whole = section_all view octets in
+    let whole = (section_lines view octets c.args.values.now 0 (elements_of (part_of view) octets)) in
     let none : left c.loop-found.found-iterator ≡ [] = c.in-None.ensures.steps in
-    let leads : Leads old now (section_end view octets opened ∷ []) whole = subst (λ ls. Leads old now (section_lines view octets opened ls) whole) none c.loop-found.invariant.leads in
-    tells_last c.put_text.result old now new (section_end view octets opened ∷ []) whole leads
+    let leads : Leads old now (section_end view octets c.loop-found.left.now opened ∷ []) whole = subst (λ ls. Leads old now (section_lines view octets c.loop-found.left.now opened ls) whole) none c.loop-found.invariant.leads in
+    tells_last c.put_text.result old now new (section_end view octets c.loop-found.left.now opened ∷ []) whole leads
     (subst (λ (t : List ℕ). Tells c.put_text.result now new (t ∷ [])) (c.as_str.ensures.value ∙ c.in_ok-text.ensures) c.put_text.ensures.lines)
 
 pub returns-in_err-text-clause-lines : goal.returns-in_err-text-clause-lines
 returns-in_err-text-clause-lines g c =
     let view = c.args.view.now in
     let octets = c.args.octets.now in
-    let rest = section_lines view octets c.loop-found.opened (left c.loop-found.found-iterator) in
+    let rest = section_lines view octets c.loop-found.left.now c.loop-found.opened (left c.loop-found.found-iterator) in
     stops_by _ _ _ _ _ c.from_residual-in_err-text.ensures.1
-    (λ h. leads_stop _ _ _ [] rest rest (section_all view octets) refl c.loop-found.invariant.leads (unwritten _ []))
+    (λ h. leads_stop _ _ _ [] rest rest ((section_lines view octets c.args.values.now 0 (elements_of (part_of view) octets))) refl c.loop-found.invariant.leads (unwritten _ []))

@@ -1,0 +1,4 @@
+pub mod Values
+pub mod Readings
+pub mod RefusedValues
+pub mod Findings

@@ -1,0 +1,33 @@
+-- One part behind another.
+use Rattle.std.proofs.Common.{◌++◌, ◌∷◌, [], codes, ap, sym, ◌∙◌}
+use Rattle.json.specs.Token.{begin_object, end_object}
+use Rattle.x509_paths.specs.declared.part.Part.TheVariants as parts
+use Rattle.x509_lists.specs.CertificateList.{list_of}
+use Rattle.x509_report_lines.specs.Says.{members_said}
+use Rattle.x509_report_objects.specs.Attempts.{found_of}
+use Rattle.x509_report_objects.specs.Lists.{list_members}
+use Rattle.x509_report_objects.specs.Objects.{object_report, standing_members}
+use Rattle.x509_report_objects.specs.Places.{octets_members, place_members}
+use Rattle.x509_report_objects.specs.RefusedValues.{refused_members}
+use Rattle.x509_report_objects.proofs.Members.{members_appended, members_end}
+use Rattle.x509_report_objects.proofs.objects.say_list.Goals as goal
+
+pub returns : goal.returns
+unfolding object_report
+returns c =
+    let seen = c.args.seen.now in
+    let begun = c.args.out.now ++ begin_object ∷ [] in
+    let place = place_members (codes "list") (found_of c.args.place.now) in
+    let octets = octets_members c.args.wishes.now.fingerprints (found_of c.args.place.now) seen.octets.now in
+    let standing = standing_members seen.plain seen.rest.now in
+    let members = list_members (list_of c.args.list.now) in
+    let refused = refused_members parts.List seen.octets.now in
+    c.in_ok-end_object.ensures
+    ∙ ap (λ ts. ts ++ end_object ∷ []) (c.in_ok-refused_under.ensures
+    ∙ ap (λ ts. members_said ts refused) (c.in_ok-list_members.ensures
+    ∙ ap (λ ts. members_said ts members) (c.in_ok-say_standing.ensures
+    ∙ ap (λ ts. members_said ts standing) (c.in_ok-say_octets.ensures
+    ∙ ap (λ ts. members_said ts octets) (c.in_ok-say_place.ensures
+    ∙ ap (λ ts. members_said ts place) c.in_ok-begin_object.ensures))))
+    ∙ sym (members_appended (members_said (members_said (members_said begun place) octets) standing) members refused))
+    ∙ sym (members_end begun (place ++ octets ++ standing ++ members ++ refused))

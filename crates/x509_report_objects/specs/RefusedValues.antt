@@ -1,0 +1,38 @@
+-- What a report says of the values of an object's extensions that can't be read (RFC 5280, 4.2).
+use Rattle.std.specs.Prelude.{ℕ, List, [], ◌∷◌, ◌++◌, codes, drop, map, take, Option, Some, None}
+use Rattle.json.specs.Json.{Json, array, string}
+use Rattle.x509_der.specs.Words.{refusal_word}
+use Rattle.x509_fields.specs.Errors.{x509_word}
+use Rattle.x509_refused_values.specs.RefusedValues.{refused_values}
+use Rattle.x509_refused_values.specs.declared.refused_value.RefusedValue.{RefusedValue}
+use Rattle.x509_paths.specs.Paths.{deepest, path}
+use Rattle.x509_paths.specs.declared.part.Part.{Part}
+use Rattle.x509_report_lines.specs.Says.{count, items_of, optional, record_of}
+use Rattle.x509_report_objects.specs.Errors.{refusal_name}
+
+-- a text that has a character
+abbrev pub some_text : List ℕ → Option (List ℕ)
+some_text [] = None
+some_text (c ∷ cs) = Some (c ∷ cs)
+
+-- the path of fields that leads to the refused octet
+abbrev pub path_in : Part → List ℕ → ℕ → Option (List ℕ)
+path_in part octets at = some_text (path deepest part octets at [])
+
+-- why a value is refused, at which octet of the object, and the path that leads there
+abbrev pub value_report : Option (List ℕ) → RefusedValue → Json
+value_report path v = record_of (
+    (codes "error", string (refusal_name v.why)) ∷
+    (codes "word", string (refusal_word x509_word v.why)) ∷
+    (codes "at", count v.at) ∷
+    (codes "path", optional (λ s. string s) path) ∷ [])
+
+abbrev pub report_with_path : Part → List ℕ → RefusedValue → Json
+report_with_path part octets v = value_report (path_in part octets v.at) v
+
+-- The first hundred with their paths, each of which is looked for from the front of the object on.
+abbrev pub value_reports : Part → List ℕ → List RefusedValue → List Json
+value_reports part octets vs = map (report_with_path part octets) (take 100 vs) ++ map (value_report None) (drop 100 vs)
+
+abbrev pub refused_members : Part → List ℕ → List (List ℕ × Json)
+refused_members part octets = (codes "refused_values", array (items_of (value_reports part octets (refused_values part octets)))) ∷ []
