@@ -18,12 +18,8 @@ use Rattle.x509_leniencies.specs.declared.leniency.LenientUse.{LenientUse}
 use Rattle.x509_leniencies.specs.Judgements.{is_leaf, judged, part_judged}
 
 -- a rule, and how many octets stand before the place at which it is used
-pub record Use : Type 0 where
-  pub at : ℕ
-  pub rule : Leniency
-
-abbrev pub use_of : LenientUse → Use
-use_of u = record { at = u.at; rule = u.rule }
+abbrev pub Use : Type 0
+Use = LenientUse
 
 abbrev pub uses : Leniency → ℕ → Use
 uses rule at = record { at = at; rule = rule }

@@ -1,11 +1,11 @@
 //! The walk down the parts of an object that don't stand plainly.
 
-ghost use Rattle.std.specs.Prelude.{◌≡◌, ◌+◌, ◌++◌, ◌<◌, ◌≤◌, ◌^◌, ℕ, List, MatchResult, OnOk, ⊤, length, map};
+ghost use Rattle.std.specs.Prelude.{◌≡◌, ◌+◌, ◌++◌, ◌<◌, ◌≤◌, ◌^◌, ℕ, List, MatchResult, OnOk, ⊤, length};
 ghost use Rattle.x509_paths.specs.Cursors.{called_of};
 ghost use Rattle.x509_paths.specs.Seen.{seen_of};
 ghost use Rattle.x509_leniencies.specs.Judgements.{part_judged};
 ghost use Rattle.x509_leniencies.specs.declared.judged.Judged.TheVariants.{Lenient, Plain};
-ghost use Rattle.x509_leniencies.specs.Uses.{behind_of, contents_of, deepest, inside, is_wrapper, leniencies, one_use, own_rule, own_uses, part_rule, rule_of, told, unread_rule, use_of};
+ghost use Rattle.x509_leniencies.specs.Uses.{behind_of, contents_of, deepest, inside, is_wrapper, leniencies, one_use, own_rule, own_uses, part_rule, rule_of, told, unread_rule};
 
 use crate::judged::{Judged, is_absent, is_leaf, judge, judge_part};
 use crate::leniency::{Leniency, LenientUse};
@@ -119,7 +119,7 @@ fn rule_of(called: &Called) -> Leniency
 
 /// Puts a rule behind those found so far, at this octet.
 fn add(uses: &mut Vec<LenientUse>, rule: Leniency, at: usize) -> Result<(), AllocError>
-    ensures { OnOk result (map use_of uses.new.items ≡ map use_of uses.old.items ++ one_use rule at) }
+    ensures { OnOk result (uses.new.items ≡ uses.old.items ++ one_use rule at) }
 {
     uses.push(LenientUse { at, rule })?;
     Ok(())
@@ -134,7 +134,7 @@ fn add_own(
     at: usize,
 ) -> Result<(), AllocError>
     requires { seen.now.size ≤ length place.now }
-    ensures { OnOk result (map use_of uses.new.items ≡ map use_of uses.old.items ++ own_uses (own_rule part place.now (seen_of seen.now)) at) }
+    ensures { OnOk result (uses.new.items ≡ uses.old.items ++ own_uses (own_rule part place.now (seen_of seen.now)) at) }
 {
     match own_rule(part, place, seen) {
         Some(rule) => add(uses, rule, at),
@@ -154,7 +154,7 @@ fn look_inside(
     uses: &mut Vec<LenientUse>,
 ) -> Result<(), AllocError>
     requires { at + length place.now < 2 ^ 64 }
-    ensures { OnOk result (map use_of uses.new.items ≡ map use_of uses.old.items ++ inside depth part at place.now) }
+    ensures { OnOk result (uses.new.items ≡ uses.old.items ++ inside depth part at place.now) }
 {
     if depth == 0 {
         return Ok(());
@@ -211,7 +211,7 @@ fn tell(
     uses: &mut Vec<LenientUse>,
 ) -> Result<(), AllocError>
     requires { at + length place.now < 2 ^ 64 }
-    ensures { OnOk result (map use_of uses.new.items ≡ map use_of uses.old.items ++ told rule judged at (inside depth part at place.now)) }
+    ensures { OnOk result (uses.new.items ≡ uses.old.items ++ told rule judged at (inside depth part at place.now)) }
 {
     match judged {
         Judged::Absent | Judged::Plain => Ok(()),
@@ -235,7 +235,7 @@ fn tell(
 ///
 /// `AllocError`.
 pub fn leniencies(alloc: Global, object: Part, octets: &[u8]) -> Result<Vec<LenientUse>, AllocError>
-    ensures exact { MatchResult result (λ uses. map use_of uses.items ≡ leniencies object octets.now) (λ _. ⊤) }
+    ensures exact { MatchResult result (λ uses. uses.items ≡ leniencies object octets.now) (λ _. ⊤) }
     // One at least where the reader takes the object and a strict one refuses it, and none where both take it.
     ensures some { MatchResult result (λ uses. part_judged object octets.now octets.now ≡ Lenient → 0 < length uses.items) (λ _. ⊤) }
     ensures none { MatchResult result (λ uses. part_judged object octets.now octets.now ≡ Plain → length uses.items ≡ 0) (λ _. ⊤) }

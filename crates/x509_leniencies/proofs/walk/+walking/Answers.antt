@@ -1,23 +1,23 @@
 -- One member more, and what is used in it.
-use Rattle.std.proofs.Common.{◌≡◌, ℕ, List, suc, zero, ◌+◌, ◌-◌, ◌<◌, ◌++◌, length, map, sym, ap, ◌∙◌, arith}
+use Rattle.std.proofs.Common.{◌≡◌, ℕ, List, suc, zero, ◌+◌, ◌-◌, ◌<◌, ◌++◌, length, sym, ap, ◌∙◌, arith}
 use Rattle.x509_paths.specs.Cursors.{Step, called_of, standing_of, stepped}
 use Rattle.x509_paths.specs.Seen.{seen_of}
 use Rattle.x509_paths.specs.Paths.{size_of}
 use Rattle.x509_leniencies.specs.declared.leniency.Leniency.TheVariants.{BytesBehind}
-use Rattle.x509_leniencies.specs.Uses.{contents_of, inside, members, one_use, own_rule, own_uses, rule_of, told, unread_rule, use_of}
+use Rattle.x509_leniencies.specs.Uses.{contents_of, inside, members, one_use, own_rule, own_uses, rule_of, told, unread_rule}
 use Rattle.x509_leniencies.proofs.Using.{absent_is, begins, begun, behind_fits, contents_fit, counted, ended, goes_on, inside_deepest, inside_unseen, last_added, member_absent, member_there, member_unseen, no_members, no_octets, none_left, nothing_more, present_is, some_octets, within}
 use Rattle.x509_leniencies.proofs.walk.+walking.Goals as goal
 
 pub look_inside-returns-then-depth-eq0 : goal.look_inside-returns-then-depth-eq0
 look_inside-returns-then-depth-eq0 t c =
     let none : c.args.depth ≡ zero = omega (arith, c.if-depth-eq0.true) in
-    nothing_more (map use_of c.args.uses.now.items) (inside c.args.depth c.args.part c.args.at c.args.place.now)
+    nothing_more c.args.uses.now.items (inside c.args.depth c.args.part c.args.at c.args.place.now)
     (ap (λ n. inside n c.args.part c.args.at c.args.place.now) none ∙ inside_deepest c.args.part c.args.at c.args.place.now)
 
 pub look_inside-returns-in_default : goal.look_inside-returns-in_default
 look_inside-returns-in_default t c =
     let deep : c.args.depth ≡ suc (c.args.depth - 1) = omega (arith, c.if-depth-eq0.false) in
-    nothing_more (map use_of c.args.uses.now.items) (inside c.args.depth c.args.part c.args.at c.args.place.now)
+    nothing_more c.args.uses.now.items (inside c.args.depth c.args.part c.args.at c.args.place.now)
     (ap (λ n. inside n c.args.part c.args.at c.args.place.now) deep
     ∙ inside_unseen (c.args.depth - 1) c.args.part c.args.at c.args.place.now c.in_default.ensures.found)
 
@@ -27,7 +27,7 @@ look_inside-loop-init t c =
     let s = seen_of c.in-Some.element in
     let left = c.contents_of-left.result.now in
     let more = members (within (c.args.depth - 1)) (length left - 0) (standing_of c.of-cursor.result) c.args.place.now (c.args.at + s.size) left in (
-      begins (map use_of c.args.uses.now.items) (map use_of c.add_own.new.uses.items) (own_uses (own_rule c.args.part c.args.place.now s) c.args.at) more
+      begins c.args.uses.now.items c.add_own.new.uses.items (own_uses (own_rule c.args.part c.args.place.now s) c.args.at) more
           (inside c.args.depth c.args.part c.args.at c.args.place.now) c.in_ok-add_own.ensures
           (ap (λ n. inside n c.args.part c.args.at c.args.place.now) deep
           ∙ begun (c.args.depth - 1) c.args.part c.args.at c.args.place.now s left (standing_of c.of-cursor.result) (length left - 0) c.in-Some.ensures.found c.contents_of-left.ensures c.of-cursor.ensures (omega arith)),
@@ -41,7 +41,7 @@ look_inside-returns-after-loop t c =
     let left = c.contents_of-left.result.now in
     let look = within (c.args.depth - 1) in
     let none : length left - it.counter ≡ zero = omega (arith, c.loop-test.false) in
-    ended (map use_of it.uses.items) (members look (length left - it.counter) (standing_of it.cursor) c.args.place.now it.next it.left.now) _ it.invariant.0
+    ended it.uses.items (members look (length left - it.counter) (standing_of it.cursor) c.args.place.now it.next it.left.now) _ it.invariant.0
     (ap (λ n. members look n (standing_of it.cursor) c.args.place.now it.next it.left.now) none ∙ no_members look (standing_of it.cursor) c.args.place.now it.next it.left.now)
 
 pub look_inside-returns-then-is_empty : goal.look_inside-returns-then-is_empty
@@ -49,7 +49,7 @@ look_inside-returns-then-is_empty t c =
     let it = c.loop in
     let n = length c.contents_of-left.result.now - it.counter in
     let look = within (c.args.depth - 1) in
-    ended (map use_of it.uses.items) (members look n (standing_of it.cursor) c.args.place.now it.next it.left.now) _ it.invariant.0
+    ended it.uses.items (members look n (standing_of it.cursor) c.args.place.now it.next it.left.now) _ it.invariant.0
     (ap (λ octets. members look n (standing_of it.cursor) c.args.place.now it.next octets) (no_octets it.left.now c.if-is_empty.ensures)
     ∙ none_left look n (standing_of it.cursor) c.args.place.now it.next)
 
@@ -59,7 +59,7 @@ look_inside-returns-in_default-see t c =
     let all = length c.contents_of-left.result.now in
     let look = within (c.args.depth - 1) in
     let left : all - it.counter ≡ suc (all - (it.counter + 1)) = omega (arith, c.loop-test.true) in
-    last_added (map use_of it.uses.items) (map use_of c.add.new.uses.items) (one_use BytesBehind it.next) (members look (all - it.counter) (standing_of it.cursor) c.args.place.now it.next it.left.now) _ c.in_ok-add.ensures
+    last_added it.uses.items c.add.new.uses.items (one_use BytesBehind it.next) (members look (all - it.counter) (standing_of it.cursor) c.args.place.now it.next it.left.now) _ c.in_ok-add.ensures
     (ap (λ n. members look n (standing_of it.cursor) c.args.place.now it.next it.left.now) left
     ∙ member_unseen look (all - (it.counter + 1)) (standing_of it.cursor) c.args.place.now it.next it.left.now (some_octets it.left.now c.if-is_empty.ensures) c.in_default-see.ensures.found)
     it.invariant.0
@@ -71,7 +71,7 @@ look_inside-returns-then-is_absent t c =
     let look = within (c.args.depth - 1) in
     let left : all - it.counter ≡ suc (all - (it.counter + 1)) = omega (arith, c.loop-test.true) in
     let step : Step = (called_of c.step.result.0, standing_of c.step.result.1) in
-    last_added (map use_of it.uses.items) (map use_of c.add-then-is_absent.new.uses.items) (one_use (unread_rule (called_of c.step.result.0).part) it.next) (members look (all - it.counter) (standing_of it.cursor) c.args.place.now it.next it.left.now) _ (c.in_ok-add-2.ensures ∙ ap (λ rule. map use_of it.uses.items ++ one_use rule it.next) c.unread_rule.ensures)
+    last_added it.uses.items c.add-then-is_absent.new.uses.items (one_use (unread_rule (called_of c.step.result.0).part) it.next) (members look (all - it.counter) (standing_of it.cursor) c.args.place.now it.next it.left.now) _ (c.in_ok-add-2.ensures ∙ ap (λ rule. it.uses.items ++ one_use rule it.next) c.unread_rule.ensures)
     (ap (λ n. members look n (standing_of it.cursor) c.args.place.now it.next it.left.now) left
     ∙ member_absent look (all - (it.counter + 1)) (standing_of it.cursor) c.args.place.now it.next it.left.now (seen_of c.in-Some-see.member) step c.in_ok-judged.judged
     (some_octets it.left.now c.if-is_empty.ensures) c.in-Some-see.ensures.found c.step.ensures c.in_ok-judged.ensures (absent_is c.in_ok-judged.judged c.if-is_absent.ensures))
@@ -86,10 +86,10 @@ look_inside-loop-preserved t c =
     let s = seen_of c.in-Some-see.member in
     let called = called_of c.step.result.0 in
     let step : Step = (called, standing_of c.step.result.1) in
-    let found = map use_of it.uses.items in
+    let found = it.uses.items in
     let rest = members look (all - (it.counter + 1)) (standing_of c.step.result.1) c.args.place.now (it.next + size_of s) c.behind_of-left.result.now in
     let grew = c.in_ok-tell.ensures ∙ ap (λ rule. found ++ told rule c.in_ok-judged.judged it.next (inside (c.args.depth - 1) called.part it.next it.left.now)) c.rule_of-rule.ensures in (
-      goes_on found (map use_of c.tell.new.uses.items) (look called c.in_ok-judged.judged it.next it.left.now) (members look (all - it.counter) (standing_of it.cursor) c.args.place.now it.next it.left.now) rest _ grew
+      goes_on found c.tell.new.uses.items (look called c.in_ok-judged.judged it.next it.left.now) (members look (all - it.counter) (standing_of it.cursor) c.args.place.now it.next it.left.now) rest _ grew
           (ap (λ n. members look n (standing_of it.cursor) c.args.place.now it.next it.left.now) left
           ∙ member_there look (all - (it.counter + 1)) (standing_of it.cursor) c.args.place.now it.next it.left.now s step c.in_ok-judged.judged
           (some_octets it.left.now c.if-is_empty.ensures) c.in-Some-see.ensures.found c.step.ensures c.in_ok-judged.ensures (present_is c.in_ok-judged.judged c.if-is_absent.ensures)
