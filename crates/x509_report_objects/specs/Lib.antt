@@ -5,6 +5,7 @@ pub mod Certificates
 pub mod Lists
 pub mod Requests
 pub mod RefusedValues
+pub mod Leniencies
 pub mod Objects
 pub mod Attempts
 pub mod Algorithms

@@ -19,23 +19,28 @@ use Rattle.x509_requests.specs.RequestInfo.{RequestInfo}
 use Rattle.x509_fields.specs.Signed.{Signed}
 use Rattle.x509_paths.specs.declared.part.Part.{Part}
 use Rattle.x509_paths.specs.declared.part.Part.TheVariants as parts
-use Rattle.x509_paths.specs.Paths.{deepest, path}
 use Rattle.x509_report_lines.specs.Says.{count, items_of, list_of, optional, record_of}
 use Rattle.x509_report_objects.specs.Certificates.{certificate_members}
 use Rattle.x509_report_objects.specs.Errors.{refusal_name}
 use Rattle.x509_report_objects.specs.Lists.{list_members}
 use Rattle.x509_report_objects.specs.Places.{Found, Wishes, place_members, octets_members}
-use Rattle.x509_report_objects.specs.RefusedValues.{refused_members, some_text}
+use Rattle.x509_leniencies.specs.Uses.{Use}
+use Rattle.x509_report_objects.specs.Leniencies.{all_uses, lenient_members, uses_unless}
+use Rattle.x509_report_objects.specs.RefusedValues.{path_in, refused_members}
 use Rattle.x509_report_objects.specs.Requests.{request_members}
 
 -- whether it stands plainly, and how many octets stand behind it
 abbrev pub standing_members : Bool → List ℕ → List (List ℕ × Json)
 standing_members plain rest = (codes "strict", boolean plain) ∷ (codes "behind", count (length rest)) ∷ []
 
--- the object's own members, and behind them the values of its extensions that can't be read
+-- the values of its extensions that can't be read, and the lenient rules that it uses
+abbrev pub found_members : Bool → Part → List ℕ → List (List ℕ × Json)
+found_members plain part octets = refused_members part octets ++ lenient_members plain part octets
+
+-- the object's own members, and behind them what was found
 unfoldable pub object_report : List ℕ → Part → Wishes → Found → List ℕ → Bool → List ℕ → List (List ℕ × Json) → Json
 object_report kind part w p octets plain rest members = record_of (
-    place_members kind p ++ octets_members w.fingerprints p octets ++ standing_members plain rest ++ members ++ refused_members part octets)
+    place_members kind p ++ octets_members w.fingerprints p octets ++ standing_members plain rest ++ members ++ found_members plain part octets)
 
 -- ---- which report stands for an object: that of the first reader that takes it
 
@@ -48,14 +53,15 @@ pub record Refused : Type 0 where
 abbrev pub refused_at : {A : Type 0} → Field A → List ℕ → ℕ
 refused_at field octets = length octets - field.stop added octets 0
 
--- what was tried, why it failed, at which octet, and the path of fields that leads there
-abbrev pub attempt_report : List ℕ → Option (List ℕ) → List ℕ → Option ℕ → Option (List ℕ) → Json
-attempt_report kind error word at path = record_of (
+-- what was tried, why it failed, at which octet, the path of fields that leads there, and the lenient rules that were needed
+abbrev pub attempt_report : List ℕ → Option (List ℕ) → List ℕ → Option ℕ → Option (List ℕ) → Json → Json
+attempt_report kind error word at path rules = record_of (
     (codes "kind", string kind) ∷
     (codes "error", optional (λ s. string s) error) ∷
     (codes "word", string word) ∷
     (codes "at", optional count at) ∷
-    (codes "path", optional (λ s. string s) path) ∷ [])
+    (codes "path", optional (λ s. string s) path) ∷
+    (codes "leniencies", rules) ∷ [])
 
 -- a reader of a kind that was tried, and why it refuses
 pub record Attempted : Type 0 where
@@ -63,9 +69,29 @@ pub record Attempted : Type 0 where
   pub part : Part
   pub refused : Refused
 
+-- a refusal of what a strict reader alone doesn't take
+abbrev pub is_strict : Refusal X509Error → Bool
+is_strict (refusals.Error Generic) = true
+is_strict _ = false
+
+-- the rules that were needed for what a strict reader refuses
+abbrev pub needed : Part → List ℕ → Refusal X509Error → List Use
+needed part octets why = uses_unless (not (is_strict why)) part octets
+
+-- the octet of the first rule that was needed, or else that of the refusal
+abbrev pub octet_of : ℕ → List Use → ℕ
+octet_of at [] = at
+octet_of at (u ∷ us) = u.at
+
+abbrev pub told_of : List ℕ → Attempted → List Use → ℕ → Json
+told_of octets a rules at =
+    attempt_report a.kind (Some (refusal_name a.refused.why)) (refusal_word x509_word a.refused.why) (Some at) (path_in a.part octets at) (all_uses a.part octets rules)
+
+abbrev pub tried_with : List ℕ → Attempted → List Use → Json
+tried_with octets a rules = told_of octets a rules (octet_of a.refused.at rules)
+
 abbrev pub tried_report : List ℕ → Attempted → Json
-tried_report octets a =
-    attempt_report a.kind (Some (refusal_name a.refused.why)) (refusal_word x509_word a.refused.why) (Some a.refused.at) (some_text (path deepest a.part octets a.refused.at []))
+tried_report octets a = tried_with octets a (needed a.part octets a.refused.why)
 
 abbrev pub tried_by : List ℕ → Part → Option Refused → List Attempted
 tried_by kind part (Some e) = record { kind = kind; part = part; refused = e } ∷ []
@@ -92,7 +118,7 @@ unfoldable pub failed_report : Wishes → Found → List ℕ → List ℕ → Li
 failed_report w p octets kind word = record_of (
     place_members (codes "refusal") p
     ++ octets_members w.fingerprints p octets
-    ++ (codes "tried", array (items_of (attempt_report kind None word None None ∷ []))) ∷ [])
+    ++ (codes "tried", array (items_of (attempt_report kind None word None None (all_uses parts.Unknown [] []) ∷ []))) ∷ [])
 
 -- of a block that holds none of the objects that are wanted, by its label
 unfoldable pub skipped_report : Wishes → Found → List ℕ → Json
@@ -102,7 +128,7 @@ skipped_report w p octets = record_of (place_members (codes "skipped") p ++ octe
 abbrev pub Told : Type 0
 Told = Result Json Refused
 
--- where only plain objects are wanted, another is refused as the strict readers refuse it, at its front
+-- where only plain objects are wanted, another is refused as the strict readers refuse it
 abbrev pub not_plain : Refused
 not_plain = record { why = refusals.Error Generic; at = 0 }
 

@@ -4,9 +4,10 @@
 mod certificates;
 mod errors;
 mod extensions;
+mod lenient;
 mod lists;
 mod objects;
-mod refused;
+mod refused_values;
 mod requests;
 mod summary;
 mod values;

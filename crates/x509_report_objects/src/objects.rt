@@ -6,19 +6,21 @@ ghost use Rattle.x509_certs.specs.Certificate.{certificate, certificate_of};
 ghost use Rattle.x509_lists.specs.CertificateList.{certificate_list, list_of};
 ghost use Rattle.x509_requests.specs.Request.{certification_request, certification_request_of};
 ghost use Rattle.x509_report_lines.specs.Says.{Says, SaysEach, SaysMembers, SaysUnder, count, items_of, list_of as array_of, optional, written};
-ghost use Rattle.x509_report_objects.specs.Objects.{all_tried, attempt_report, certificate_told, failed_report, list_told, object_told};
+ghost use Rattle.x509_report_objects.specs.Objects.{all_tried, attempt_report, certificate_told, failed_report, found_members, is_strict, list_told, object_told, octet_of};
 ghost use Rattle.x509_report_objects.specs.Objects.{object_report, refusal_report, request_told, skipped_report, standing_members, tried_by};
 ghost use Rattle.x509_report_objects.specs.Objects.{tried_report};
 ghost use Rattle.x509_report_objects.specs.Certificates.{certificate_members};
 ghost use Rattle.x509_report_objects.specs.Lists.{list_members};
 ghost use Rattle.x509_report_objects.specs.Requests.{request_members};
 ghost use Rattle.x509_report_objects.specs.Places.{octets_members, place_members};
+ghost use Rattle.x509_report_objects.specs.Leniencies.{all_uses};
 ghost use Rattle.x509_report_objects.specs.Attempts.{Attempts, found_of, refused_of, tried_of, wishes_of};
 
 use crate::certificates::certificate_members;
 use crate::errors::refusal_name;
+use crate::lenient::{leniencies_under, uses_under, uses_unless};
 use crate::lists::list_members;
-use crate::refused::{refused_under, some_text};
+use crate::refused_values::{refused_under, some_text};
 use crate::requests::request_members;
 use crate::values::{
     count_under, fingerprint_under, null_under, optional_text_under, text_under, truth_under,
@@ -27,6 +29,7 @@ use std::alloc::{AllocError, Global};
 use x509_certs::{X509Certificate, parse_x509_certificate_located, parse_x509_certificate_marked};
 use x509_der::{Err, Located};
 use x509_fields::X509Error;
+use x509_leniencies::LenientUse;
 use x509_lists::{CertificateRevocationList, parse_x509_crl_located, parse_x509_crl_marked};
 use x509_paths::{Part, path_to};
 use x509_report_lines::Line;
@@ -149,6 +152,20 @@ fn say_standing(out: &mut Line, plain: bool, rest: &[u8]) -> Result<(), AllocErr
     size_under(out, "behind", rest)
 }
 
+/// The values of its extensions that can't be read, and the lenient rules that it uses.
+fn say_found(
+    alloc: Global,
+    out: &mut Line,
+    plain: bool,
+    part: Part,
+    octets: &[u8],
+) -> Result<(), AllocError>
+    ensures { SaysMembers result out.old out.new (found_members plain part octets.now) }
+{
+    refused_under(alloc, out, "refused_values", part, octets)?;
+    leniencies_under(alloc, out, "leniencies", plain, part, octets)
+}
+
 /// The report of a certificate.
 #[tactic(auto, unfolding(crate::specs::Objects::object_report), using(crate::proofs::Members::members_end))]
 fn say_certificate(
@@ -167,7 +184,7 @@ fn say_certificate(
     say_octets(alloc, out, wishes.fingerprints, place, seen.octets)?;
     say_standing(out, seen.plain, seen.rest)?;
     certificate_members(alloc, out, wishes.fingerprints, certificate)?;
-    refused_under(alloc, out, "refused_values", Part::Certificate, seen.octets)?;
+    say_found(alloc, out, seen.plain, Part::Certificate, seen.octets)?;
     out.end_object()?;
     Ok(())
 }
@@ -228,7 +245,7 @@ fn say_list(
     say_octets(alloc, out, wishes.fingerprints, place, seen.octets)?;
     say_standing(out, seen.plain, seen.rest)?;
     list_members(alloc, out, list)?;
-    refused_under(alloc, out, "refused_values", Part::List, seen.octets)?;
+    say_found(alloc, out, seen.plain, Part::List, seen.octets)?;
     out.end_object()?;
     Ok(())
 }
@@ -289,7 +306,7 @@ fn say_request(
     say_octets(alloc, out, wishes.fingerprints, place, seen.octets)?;
     say_standing(out, seen.plain, seen.rest)?;
     request_members(alloc, out, wishes.fingerprints, request)?;
-    refused_under(alloc, out, "refused_values", Part::Request, seen.octets)?;
+    say_found(alloc, out, seen.plain, Part::Request, seen.octets)?;
     out.end_object()?;
     Ok(())
 }
@@ -343,24 +360,53 @@ fn octet_under(out: &mut Line, key: &str, at: Option<usize>) -> Result<(), Alloc
 }
 
 /// What was tried, why it failed, at which octet, and the path that leads there.
-fn say_attempt(
-    out: &mut Line,
-    kind: &str,
-    error: Option<&str>,
-    word: &str,
+#[derive(Clone, Copy)]
+struct Failure<'a> {
+    kind: &'a str,
+    error: Option<&'a str>,
+    word: &'a str,
     at: Option<usize>,
-    path: Option<&str>,
+    path: Option<&'a str>,
+}
+
+/// The same, and the lenient rules that these octets needed as such a part.
+fn say_attempt(
+    alloc: Global,
+    out: &mut Line,
+    failure: &Failure<'_>,
+    part: Part,
+    octets: &[u8],
+    uses: &[LenientUse],
 ) -> Result<(), AllocError>
-    ensures { Says result out.old out.new (attempt_report kind.now (option_map (λ s. s.now) error.entry) word.now at (option_map (λ s. s.now) path.entry)) }
+    ensures { Says result out.old out.new (attempt_report failure.now.kind.now (option_map (λ s. s.now) failure.now.error) failure.now.word.now failure.now.at
+        (option_map (λ s. s.now) failure.now.path) (all_uses part octets.now uses.now)) }
 {
     out.begin_object()?;
-    text_under(out, "kind", kind)?;
-    optional_text_under(out, "error", error)?;
-    text_under(out, "word", word)?;
-    octet_under(out, "at", at)?;
-    optional_text_under(out, "path", path)?;
+    text_under(out, "kind", failure.kind)?;
+    optional_text_under(out, "error", failure.error)?;
+    text_under(out, "word", failure.word)?;
+    octet_under(out, "at", failure.at)?;
+    optional_text_under(out, "path", failure.path)?;
+    uses_under(alloc, out, "leniencies", part, octets, uses)?;
     out.end_object()?;
     Ok(())
+}
+
+/// Whether this is a refusal of what a strict reader alone doesn't take.
+fn is_strict(why: &Err<X509Error>) -> bool
+    ensures { result ≡ is_strict why.now }
+{
+    matches!(why, Err::Error(X509Error::Generic))
+}
+
+/// The octet of the first rule that was needed, or else that of the refusal.
+fn octet_of(at: usize, uses: &[LenientUse]) -> usize
+    ensures { result ≡ octet_of at uses.now }
+{
+    match uses {
+        [first, ..] => first.at,
+        [] => at,
+    }
 }
 
 /// A reader that was tried, where it was, and why it refuses.
@@ -376,16 +422,17 @@ fn say_refused(
 {
     match refusal {
         Some(Located { why, at }) => {
+            let uses = uses_unless(alloc, !is_strict(&why), part, octets)?;
+            let at = octet_of(at, uses.as_slice());
             let path = path_to(alloc, part, octets, at)?;
-            let error = refusal_name(&why);
-            say_attempt(
-                out,
+            let failure = Failure {
                 kind,
-                Some(error),
-                why.word(),
-                Some(at),
-                some_text(path.as_str()),
-            )
+                error: Some(refusal_name(&why)),
+                word: why.word(),
+                at: Some(at),
+                path: some_text(path.as_str()),
+            };
+            say_attempt(alloc, out, &failure, part, octets, uses.as_slice())
         }
         None => Ok(()),
     }
@@ -447,12 +494,25 @@ fn say_refusal(
 }
 
 /// What was tried by other means than a reader of objects, under a key.
-fn attempt_under(out: &mut Line, key: &str, kind: &str, word: &str) -> Result<(), AllocError>
-    ensures { SaysUnder result out.old out.new key.now (array (items_of (attempt_report kind.now None word.now None None ∷ []))) }
+fn attempt_under(
+    alloc: Global,
+    out: &mut Line,
+    key: &str,
+    kind: &str,
+    word: &str,
+) -> Result<(), AllocError>
+    ensures { SaysUnder result out.old out.new key.now (array (items_of (attempt_report kind.now None word.now None None (all_uses Part.Unknown [] []) ∷ []))) }
 {
+    let failure = Failure {
+        kind,
+        error: None,
+        word,
+        at: None,
+        path: None,
+    };
     out.key(key)?;
     out.begin_array()?;
-    say_attempt(out, kind, None, word, None, None)?;
+    say_attempt(alloc, out, &failure, Part::Unknown, &[], &[])?;
     out.end_array()?;
     Ok(())
 }
@@ -473,7 +533,7 @@ pub fn failed_line(
     out.begin_object()?;
     say_place(out, "refusal", place)?;
     say_octets(alloc, out, wishes.fingerprints, place, octets)?;
-    attempt_under(out, "tried", kind, word)?;
+    attempt_under(alloc, out, "tried", kind, word)?;
     out.end_object()?;
     Ok(())
 }

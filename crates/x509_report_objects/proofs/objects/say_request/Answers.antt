@@ -6,9 +6,8 @@ use Rattle.x509_requests.specs.Request.{certification_request_of}
 use Rattle.x509_report_lines.specs.Says.{members_said}
 use Rattle.x509_report_objects.specs.Attempts.{found_of}
 use Rattle.x509_report_objects.specs.Requests.{request_members}
-use Rattle.x509_report_objects.specs.Objects.{object_report, standing_members}
+use Rattle.x509_report_objects.specs.Objects.{found_members, object_report, standing_members}
 use Rattle.x509_report_objects.specs.Places.{octets_members, place_members}
-use Rattle.x509_report_objects.specs.RefusedValues.{refused_members}
 use Rattle.x509_report_objects.proofs.Members.{members_appended, members_end}
 use Rattle.x509_report_objects.proofs.objects.say_request.Goals as goal
 
@@ -21,9 +20,9 @@ returns c =
     let octets = octets_members c.args.wishes.now.fingerprints (found_of c.args.place.now) seen.octets.now in
     let standing = standing_members seen.plain seen.rest.now in
     let members = request_members c.args.wishes.now.fingerprints (certification_request_of c.args.request.now) in
-    let refused = refused_members parts.Request seen.octets.now in
+    let refused = found_members seen.plain parts.Request seen.octets.now in
     c.in_ok-end_object.ensures
-    ∙ ap (λ ts. ts ++ end_object ∷ []) (c.in_ok-refused_under.ensures
+    ∙ ap (λ ts. ts ++ end_object ∷ []) (c.in_ok-say_found.ensures
     ∙ ap (λ ts. members_said ts refused) (c.in_ok-request_members.ensures
     ∙ ap (λ ts. members_said ts members) (c.in_ok-say_standing.ensures
     ∙ ap (λ ts. members_said ts standing) (c.in_ok-say_octets.ensures

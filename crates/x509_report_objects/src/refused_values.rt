@@ -9,8 +9,8 @@ ghost use Rattle.x509_report_objects.specs.RefusedValues.{report_with_path, some
 use crate::errors::refusal_name;
 use crate::values::{count_under, optional_text_under, text_under};
 use std::alloc::{AllocError, Global};
-use x509_refused_values::{RefusedValue, refused_values};
 use x509_paths::{Part, path_to};
+use x509_refused_values::{RefusedValue, refused_values};
 use x509_report_lines::Line;
 
 /// Of how many values the paths are looked for.
