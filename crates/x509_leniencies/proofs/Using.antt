@@ -11,13 +11,13 @@ use Rattle.x509_paths.specs.Seen.{Seen, seen}
 use Rattle.x509_paths.specs.Paths.{size_of}
 use Rattle.x509_leniencies.specs.declared.judged.Judged.{Judged}
 use Rattle.x509_leniencies.specs.declared.judged.Judged.TheVariants.{Absent, Plain, Lenient, Unjudged}
-use Rattle.x509_leniencies.specs.Judgements.{is_absent, is_leaf, judged}
+use Rattle.x509_leniencies.specs.Judgements.{Around, is_absent, is_leaf, judged}
 use Rattle.x509_leniencies.specs.declared.leniency.Leniency.TheVariants.{BytesBehind}
 use Rattle.x509_leniencies.specs.Uses.{Look, Use, behind_of, contents_of, inside, inside_seen, is_wrapper, member_judged, member_seen, member_stepped, members, one_use, own_rule, own_uses, rule_of, told, unread_rule, uses}
 
 -- what is looked at in an element that may be so deep
-abbrev pub within : ℕ → Look
-within n = λ c j a w. told (rule_of c) j a (inside n c.part a w)
+abbrev pub within : ℕ → Part → Look
+within n part = λ c j a w. told (rule_of part c) j a (inside n c.part a w)
 
 pub inside_deepest : (part : Part) (at : ℕ) (place : List ℕ) → inside zero part at place ≡ []
 unfolding inside
@@ -25,38 +25,38 @@ inside_deepest part at place = refl
 
 pub inside_unseen : (n : ℕ) (part : Part) (at : ℕ) (place : List ℕ) → None ≡ seen place → inside (suc n) part at place ≡ []
 unfolding inside
-inside_unseen n part at place is = ap (inside_seen (within n) part at place) (sym is)
+inside_unseen n part at place is = ap (inside_seen (within n part) part at place) (sym is)
 
 pub inside_seen_so : (n : ℕ) (part : Part) (at : ℕ) (place : List ℕ) (s : Seen) → Some s ≡ seen place
-    → inside (suc n) part at place ≡ own_uses (own_rule part place s) at ++ members (within n) (length (contents_of part place s)) (first_of part) place (at + s.size) (contents_of part place s)
+    → inside (suc n) part at place ≡ own_uses (own_rule part place s) at ++ members (within n part) (length (contents_of part place s)) (first_of part) (record { part = part; octets = place }) (at + s.size) (contents_of part place s)
 unfolding inside
-inside_seen_so n part at place s is = ap (inside_seen (within n) part at place) (sym is)
+inside_seen_so n part at place s is = ap (inside_seen (within n part) part at place) (sym is)
 
 -- ---- members
 
-pub no_members : (look : Look) (standing : Standing) (around : List ℕ) (at : ℕ) (place : List ℕ) → members look zero standing around at place ≡ []
+pub no_members : (look : Look) (standing : Standing) (around : Around) (at : ℕ) (place : List ℕ) → members look zero standing around at place ≡ []
 unfolding members
 no_members look standing around at place = refl
 
-pub none_left : (look : Look) (n : ℕ) (standing : Standing) (around : List ℕ) (at : ℕ) → members look n standing around at [] ≡ []
+pub none_left : (look : Look) (n : ℕ) (standing : Standing) (around : Around) (at : ℕ) → members look n standing around at [] ≡ []
 unfolding members
 none_left look zero standing around at = refl
 none_left look (suc n) standing around at = refl
 
-abbrev more : Look → ℕ → List ℕ → Standing → ℕ → List ℕ → List Use
+abbrev more : Look → ℕ → Around → Standing → ℕ → List ℕ → List Use
 more look n around = λ next. members look n next around
 
-member : (look : Look) (n : ℕ) (standing : Standing) (around : List ℕ) (at : ℕ) (place : List ℕ) (found : Option Seen) → 0 < length place → found ≡ seen place
+member : (look : Look) (n : ℕ) (standing : Standing) (around : Around) (at : ℕ) (place : List ℕ) (found : Option Seen) → 0 < length place → found ≡ seen place
     → members look (suc n) standing around at place ≡ member_seen look (more look n around) standing around at place found
 unfolding members
 member look n standing around at [] found some is = absurd (omega (arith, some))
 member look n standing around at (b ∷ bs) found some is = ap (member_seen look (more look n around) standing around at (b ∷ bs)) (sym is)
 
-pub member_unseen : (look : Look) (n : ℕ) (standing : Standing) (around : List ℕ) (at : ℕ) (place : List ℕ) → 0 < length place → None ≡ seen place
+pub member_unseen : (look : Look) (n : ℕ) (standing : Standing) (around : Around) (at : ℕ) (place : List ℕ) → 0 < length place → None ≡ seen place
     → members look (suc n) standing around at place ≡ one_use BytesBehind at
 member_unseen look n standing around at place some is = member look n standing around at place None some is
 
-judgement : (look : Look) (n : ℕ) (standing : Standing) (around : List ℕ) (at : ℕ) (place : List ℕ) (s : Seen) (step : Step) (j : Judged) → 0 < length place → Some s ≡ seen place
+judgement : (look : Look) (n : ℕ) (standing : Standing) (around : Around) (at : ℕ) (place : List ℕ) (s : Seen) (step : Step) (j : Judged) → 0 < length place → Some s ≡ seen place
     → step ≡ stepped standing s.header s.contents → j ≡ judged step.0 around place
     → members look (suc n) standing around at place ≡ member_judged look (more look n around) step at place s j
 judgement look n standing around at place s step j some is goes told =
@@ -64,7 +64,7 @@ judgement look n standing around at place s step j some is goes told =
     ∙ ap (member_stepped look (more look n around) around at place s) (sym goes)
     ∙ ap (member_judged look (more look n around) step at place s) (sym told)
 
-pub member_absent : (look : Look) (n : ℕ) (standing : Standing) (around : List ℕ) (at : ℕ) (place : List ℕ) (s : Seen) (step : Step) (j : Judged) → 0 < length place → Some s ≡ seen place
+pub member_absent : (look : Look) (n : ℕ) (standing : Standing) (around : Around) (at : ℕ) (place : List ℕ) (s : Seen) (step : Step) (j : Judged) → 0 < length place → Some s ≡ seen place
     → step ≡ stepped standing s.header s.contents → j ≡ judged step.0 around place → j ≡ Absent
     → members look (suc n) standing around at place ≡ one_use (unread_rule step.0.part) at
 member_absent look n standing around at place s step j some is goes told absent =
@@ -77,7 +77,7 @@ there look rest step at place s Plain stands = refl
 there look rest step at place s Lenient stands = refl
 there look rest step at place s Unjudged stands = refl
 
-pub member_there : (look : Look) (n : ℕ) (standing : Standing) (around : List ℕ) (at : ℕ) (place : List ℕ) (s : Seen) (step : Step) (j : Judged) → 0 < length place → Some s ≡ seen place
+pub member_there : (look : Look) (n : ℕ) (standing : Standing) (around : Around) (at : ℕ) (place : List ℕ) (s : Seen) (step : Step) (j : Judged) → 0 < length place → Some s ≡ seen place
     → step ≡ stepped standing s.header s.contents → j ≡ judged step.0 around place → (j ≡ Absent → ⊥)
     → members look (suc n) standing around at place ≡ look step.0 j at place ++ members look n step.1 around (at + size_of s) (behind_of step.0.part s)
 member_there look n standing around at place s step j some is goes told stands =
@@ -87,13 +87,13 @@ member_there look n standing around at place s step j some is goes told stands =
 
 -- so contents and fields begin
 pub begun : (n : ℕ) (part : Part) (at : ℕ) (place : List ℕ) (s : Seen) (contents : List ℕ) (standing : Standing) (m : ℕ) → Some s ≡ seen place → contents ≡ contents_of part place s → standing ≡ first_of part → m ≡ length contents
-    → inside (suc n) part at place ≡ own_uses (own_rule part place s) at ++ members (within n) m standing place (at + s.size) contents
+    → inside (suc n) part at place ≡ own_uses (own_rule part place s) at ++ members (within n part) m standing (record { part = part; octets = place }) (at + s.size) contents
 begun n part at place s contents standing m is holds stands all =
     inside_seen_so n part at place s is
     ∙ ap (λ more. own_uses (own_rule part place s) at ++ more)
-    (ap (λ octets. members (within n) (length octets) (first_of part) place (at + s.size) octets) (sym holds)
-    ∙ ap (λ first. members (within n) (length contents) first place (at + s.size) contents) (sym stands)
-    ∙ ap (λ k. members (within n) k standing place (at + s.size) contents) (sym all))
+    (ap (λ octets. members (within n part) (length octets) (first_of part) (record { part = part; octets = place }) (at + s.size) octets) (sym holds)
+    ∙ ap (λ first. members (within n part) (length contents) first (record { part = part; octets = place }) (at + s.size) contents) (sym stands)
+    ∙ ap (λ k. members (within n part) k standing (record { part = part; octets = place }) (at + s.size) contents) (sym all))
 
 pub nothing_more : (found more : List Use) → more ≡ [] → found ≡ found ++ more
 nothing_more found more none = sym (ap (λ us. found ++ us) none ∙ append-nil found)

@@ -1,5 +1,6 @@
 -- How a part stands at the front of some octets: as the marks of its grammar say.
-use Rattle.std.specs.Prelude.{ℕ, List, [], ◌∷◌, Bool, true, false, Ok, Err, if◌then◌else◌}
+use Rattle.std.specs.Prelude.{ℕ, List, codes, Bool, true, false, Ok, Err, if◌then◌else◌}
+use Rattle.std.specs.Str.{bytes_eq}
 use Rattle.x509_der.specs.declared.error.Err.{Err as Refusal}
 use Rattle.x509_der.specs.Plan.{Plan, Outcome}
 use Rattle.x509_der.specs.Leaves.{any, bool_loose}
@@ -47,6 +48,11 @@ abbrev pub judged_with : {F A : Type 0} → Outcome F A → Bool → Judged
 judged_with (Ok x) plain = marked plain
 judged_with (Err r) plain = Absent
 
+-- an element that is looked into without a grammar of its own
+abbrev pub opened : Judged → Judged
+opened Plain = Unjudged
+opened j = j
+
 -- by the grammar of a structure, which takes the octets or refuses them, and by its mark
 abbrev pub judged_by : {F A : Type 0} → Plan F A → List ℕ → Judged
 judged_by p place = judged_with (p.read place) (p.marks place)
@@ -76,9 +82,9 @@ is_leaf parts.Told = true
 is_leaf parts.Whole = true
 is_leaf _ = false
 
--- A part at the front of a place; of an extension's value, that of the extension at the front of the octets around it. Of what is looked at
--- from outside an element stands there; what else has no grammar of its own here isn't judged; and what is no field, or none that is read, stands
--- as nothing.
+-- A part at the front of a place; of an extension's value, that of the extension at the front of the octets around it. What has no grammar
+-- of its own here stands where an element does, and isn't judged unless it is looked at from outside alone; nor are wrappers. What is no
+-- field, or none that is read, stands as nothing.
 abbrev pub part_judged : Part → List ℕ → List ℕ → Judged
 part_judged parts.Certificate around place = judged_by (certificate true) place
 part_judged parts.TbsCertificate around place = judged_by (tbs true) place
@@ -108,15 +114,25 @@ part_judged parts.Entry around place = judged_by revoked place
 part_judged parts.Request around place = judged_by certification_request place
 part_judged parts.RequestInfo around place = judged_by request_info place
 part_judged parts.Attribute around place = judged_by request_attribute place
-part_judged parts.Values around place = Unjudged
+part_judged parts.TaggedExtensions around place = Unjudged
+part_judged parts.Attributes around place = Unjudged
+part_judged parts.Values around place = opened (judged_by any place)
 part_judged parts.Unknown around place = Absent
 part_judged parts.Unread around place = Absent
-part_judged part around place = if is_leaf part then judged_by any place else Unjudged
+part_judged part around place = if is_leaf part then judged_by any place else opened (judged_by any place)
 
--- an alternative of a choice is a GeneralName (RFC 5280, 4.2.1.6)
-abbrev pub judged_as : List ℕ → Part → List ℕ → List ℕ → Judged
-judged_as [] part around place = part_judged part around place
-judged_as (c ∷ cs) part around place = judged_by general_name place
+-- the element in which a member stands: which part that is, and the octets from its header on
+pub record Around : Type 0 where
+  pub part : Part
+  pub octets : List ℕ
 
-abbrev pub judged : Called → List ℕ → List ℕ → Judged
-judged c around place = judged_as c.alternative c.part around place
+-- a member that is a GeneralName (RFC 5280, 4.2.1.6), whatever its number: one of GeneralNames, a subtree's base (4.2.1.10), and where an
+-- access leads (4.2.2.1)
+abbrev pub is_name : Part → List ℕ → Bool
+is_name parts.GeneralNames name = true
+is_name parts.Subtree name = bytes_eq name (codes "base")
+is_name parts.Access name = bytes_eq name (codes "accessLocation")
+is_name _ name = false
+
+abbrev pub judged : Called → Around → List ℕ → Judged
+judged c around place = if is_name around.part c.name then judged_by general_name place else part_judged c.part around.octets place

@@ -15,7 +15,7 @@ use Rattle.x509_leniencies.specs.declared.judged.Judged.TheVariants.{Absent, Pla
 use Rattle.x509_leniencies.specs.declared.leniency.Leniency.{Leniency}
 use Rattle.x509_leniencies.specs.declared.leniency.Leniency.TheVariants.{BytesBehind, WrapperByNumber, AnySerial, BasicTruth, UnreadableField, AttributeByNumbers, ChoiceByNumber, UnreadableName, TimestampsBehind, Inside}
 use Rattle.x509_leniencies.specs.declared.leniency.LenientUse.{LenientUse}
-use Rattle.x509_leniencies.specs.Judgements.{is_leaf, judged, part_judged}
+use Rattle.x509_leniencies.specs.Judgements.{Around, is_leaf, is_name, judged, part_judged}
 
 -- a rule, and how many octets stand before the place at which it is used
 abbrev pub Use : Type 0
@@ -68,12 +68,9 @@ part_rule (parts.Value values.TimestampList) = TimestampsBehind
 part_rule parts.Attribute = BytesBehind
 part_rule _ = Inside
 
-abbrev pub rule_as : List ℕ → Part → Leniency
-rule_as [] part = part_rule part
-rule_as (c ∷ cs) part = UnreadableName
-
-abbrev pub rule_of : Called → Leniency
-rule_of c = rule_as c.alternative c.part
+-- of a member of such a part
+abbrev pub rule_of : Part → Called → Leniency
+rule_of around c = if is_name around c.name then UnreadableName else part_rule c.part
 
 abbrev pub or_own : Use → List Use → List Use
 or_own own [] = own ∷ []
@@ -106,15 +103,15 @@ abbrev pub member_judged : Look → More → Step → ℕ → List ℕ → Seen 
 member_judged look more step at place s Absent = one_use (unread_rule step.0.part) at
 member_judged look more step at place s j = look step.0 j at place ++ more step.1 (at + size_of s) (behind_of step.0.part s)
 
-abbrev pub member_stepped : Look → More → List ℕ → ℕ → List ℕ → Seen → Step → List Use
+abbrev pub member_stepped : Look → More → Around → ℕ → List ℕ → Seen → Step → List Use
 member_stepped look more around at place s step = member_judged look more step at place s (judged step.0 around place)
 
-abbrev pub member_seen : Look → More → Standing → List ℕ → ℕ → List ℕ → Option Seen → List Use
+abbrev pub member_seen : Look → More → Standing → Around → ℕ → List ℕ → Option Seen → List Use
 member_seen look more standing around at place None = one_use BytesBehind at
 member_seen look more standing around at place (Some s) = member_stepped look more around at place s (stepped standing s.header s.contents)
 
 -- of so many members at most
-unfoldable pub members : Look → ℕ → Standing → List ℕ → ℕ → List ℕ → List Use
+unfoldable pub members : Look → ℕ → Standing → Around → ℕ → List ℕ → List Use
 members look zero standing around at place = []
 members look (suc n) standing around at [] = []
 members look (suc n) standing around at (b ∷ bs) = member_seen look (λ next. members look n next around) standing around at (b ∷ bs) (seen (b ∷ bs))
@@ -129,12 +126,12 @@ abbrev pub inside_seen : Look → Part → ℕ → List ℕ → Option Seen → 
 inside_seen look part at place None = []
 inside_seen look part at place (Some s) =
     let contents = contents_of part place s in
-    own_uses (own_rule part place s) at ++ members look (length contents) (first_of part) place (at + s.size) contents
+    own_uses (own_rule part place s) at ++ members look (length contents) (first_of part) (record { part = part; octets = place }) (at + s.size) contents
 
 -- the rules that are used inside the element at the front of a place, as deep as so many parts stand in one another
 unfoldable pub inside : ℕ → Part → ℕ → List ℕ → List Use
 inside zero part at place = []
-inside (suc n) part at place = inside_seen (λ c j a w. told (rule_of c) j a (inside n c.part a w)) part at place (seen place)
+inside (suc n) part at place = inside_seen (λ c j a w. told (rule_of part c) j a (inside n c.part a w)) part at place (seen place)
 
 abbrev pub deepest : ℕ
 deepest = 32

@@ -4,7 +4,7 @@ ghost use Rattle.std.specs.Prelude.{◌≡◌, MatchResult, false, ⊤};
 ghost use Rattle.x509_der.specs.Leaves.{any, bool_loose};
 ghost use Rattle.x509_fields.specs.Serial.{serial};
 ghost use Rattle.x509_extensions.specs.Extension.{extension};
-ghost use Rattle.x509_leniencies.specs.Judgements.{is_absent, is_leaf, judged, judged_by, marked, part_judged, value_judged};
+ghost use Rattle.x509_leniencies.specs.Judgements.{is_absent, is_leaf, is_name, opened, judged, judged_by, marked, part_judged, value_judged};
 ghost use Rattle.x509_paths.specs.Cursors.{called_of};
 
 use std::alloc::{AllocError, Global};
@@ -86,6 +86,16 @@ fn judge_boolean(place: &[u8]) -> Judged
     match Place::look(&mut Tries::new(), place).bool_marked() {
         Ok((_, plain)) => marked(plain),
         Err(_) => Judged::Absent,
+    }
+}
+
+/// How an element stands that is looked into without a grammar of its own.
+fn opened(judged: Judged) -> Judged
+    ensures { result ≡ opened judged }
+{
+    match judged {
+        Judged::Plain => Judged::Unjudged,
+        other => other,
     }
 }
 
@@ -179,25 +189,39 @@ pub(crate) fn judge_part(
         Part::Request => judge_as::<X509Error, X509CertificationRequest<'_>>(alloc, place),
         Part::RequestInfo => judge_as::<X509Error, X509CertificationRequestInfo<'_>>(alloc, place),
         Part::Attribute => judge_as::<X509Error, X509CriAttribute<'_>>(alloc, place),
-        Part::Values => Ok(Judged::Unjudged),
+        Part::TaggedExtensions | Part::Attributes => Ok(Judged::Unjudged),
+        Part::Values => Ok(opened(judge_any(place))),
         Part::Unknown | Part::Unread => Ok(Judged::Absent),
         _ if is_leaf(part) => Ok(judge_any(place)),
-        _ => Ok(Judged::Unjudged),
+        _ => Ok(opened(judge_any(place))),
     }
 }
 
-/// How what is called so stands at the front of a place in the element at the front of the octets around it.
+/// Whether a member of such a part is a GeneralName, whatever its number.
+pub(crate) fn is_name(around: Part, name: &str) -> bool
+    ensures { result ≡ is_name around name.now }
+{
+    match around {
+        Part::GeneralNames => true,
+        Part::Subtree => name == "base",
+        Part::Access => name == "accessLocation",
+        _ => false,
+    }
+}
+
+/// How what is called so stands at the front of a place, in this part at the front of the octets around it.
 pub(crate) fn judge(
     alloc: Global,
     called: &Called,
+    part: Part,
     around: &[u8],
     place: &[u8],
 ) -> Result<Judged, AllocError>
-    ensures { MatchResult result (λ j. j ≡ judged (called_of called.now) around.now place.now) (λ _. ⊤) }
+    ensures { MatchResult result (λ j. j ≡ judged (called_of called.now) (record { part = part; octets = around.now }) place.now) (λ _. ⊤) }
 {
-    if called.alternative.is_empty() {
-        judge_part(alloc, called.part, around, place)
-    } else {
+    if is_name(part, called.name) {
         judge_as::<X509Error, GeneralName<'_>>(alloc, place)
+    } else {
+        judge_part(alloc, called.part, around, place)
     }
 }

@@ -7,7 +7,7 @@ ghost use Rattle.x509_leniencies.specs.Judgements.{part_judged};
 ghost use Rattle.x509_leniencies.specs.declared.judged.Judged.TheVariants.{Lenient, Plain};
 ghost use Rattle.x509_leniencies.specs.Uses.{behind_of, contents_of, deepest, inside, is_wrapper, leniencies, one_use, own_rule, own_uses, part_rule, rule_of, told, unread_rule};
 
-use crate::judged::{Judged, is_absent, is_leaf, judge, judge_part};
+use crate::judged::{Judged, is_absent, is_leaf, is_name, judge, judge_part};
 use crate::leniency::{Leniency, LenientUse};
 use std::alloc::{AllocError, Global};
 use x509_der::{Class, Tries, read_header};
@@ -106,14 +106,14 @@ fn unread_rule(part: Part) -> Leniency
     }
 }
 
-/// The rule of what is called so and is taken by one, where no rule is told of what stands in it.
-fn rule_of(called: &Called) -> Leniency
-    ensures { result ≡ rule_of (called_of called.now) }
+/// The rule of a member of such a part that is called so and is taken by one, where no rule is told of what stands in it.
+fn rule_of(around: Part, called: &Called) -> Leniency
+    ensures { result ≡ rule_of around (called_of called.now) }
 {
-    if called.alternative.is_empty() {
-        part_rule(called.part)
-    } else {
+    if is_name(around, called.name) {
         Leniency::UnreadableName
+    } else {
+        part_rule(called.part)
     }
 }
 
@@ -175,12 +175,12 @@ fn look_inside(
             return Ok(());
         };
         let (called, behind) = cursor.step(&member.header, member.contents);
-        let judged = judge(alloc, &called, place, left)?;
+        let judged = judge(alloc, &called, part, place, left)?;
         if is_absent(judged) {
             add(uses, unread_rule(called.part), next)?;
             return Ok(());
         }
-        let rule = rule_of(&called);
+        let rule = rule_of(part, &called);
         tell(
             alloc,
             depth - 1,

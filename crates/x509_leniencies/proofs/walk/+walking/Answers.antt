@@ -26,7 +26,7 @@ look_inside-loop-init t c =
     let deep : c.args.depth ≡ suc (c.args.depth - 1) = omega (arith, c.if-depth-eq0.false) in
     let s = seen_of c.in-Some.element in
     let left = c.contents_of-left.result.now in
-    let more = members (within (c.args.depth - 1)) (length left - 0) (standing_of c.of-cursor.result) c.args.place.now (c.args.at + s.size) left in (
+    let more = members (within (c.args.depth - 1) c.args.part) (length left - 0) (standing_of c.of-cursor.result) (record { part = c.args.part; octets = c.args.place.now }) (c.args.at + s.size) left in (
       begins c.args.uses.now.items c.add_own.new.uses.items (own_uses (own_rule c.args.part c.args.place.now s) c.args.at) more
           (inside c.args.depth c.args.part c.args.at c.args.place.now) c.in_ok-add_own.ensures
           (ap (λ n. inside n c.args.part c.args.at c.args.place.now) deep
@@ -39,41 +39,41 @@ pub look_inside-returns-after-loop : goal.look_inside-returns-after-loop
 look_inside-returns-after-loop t c =
     let it = c.loop in
     let left = c.contents_of-left.result.now in
-    let look = within (c.args.depth - 1) in
+    let look = within (c.args.depth - 1) c.args.part in
     let none : length left - it.counter ≡ zero = omega (arith, c.loop-test.false) in
-    ended it.uses.items (members look (length left - it.counter) (standing_of it.cursor) c.args.place.now it.next it.left.now) _ it.invariant.0
-    (ap (λ n. members look n (standing_of it.cursor) c.args.place.now it.next it.left.now) none ∙ no_members look (standing_of it.cursor) c.args.place.now it.next it.left.now)
+    ended it.uses.items (members look (length left - it.counter) (standing_of it.cursor) (record { part = c.args.part; octets = c.args.place.now }) it.next it.left.now) _ it.invariant.0
+    (ap (λ n. members look n (standing_of it.cursor) (record { part = c.args.part; octets = c.args.place.now }) it.next it.left.now) none ∙ no_members look (standing_of it.cursor) (record { part = c.args.part; octets = c.args.place.now }) it.next it.left.now)
 
 pub look_inside-returns-then-is_empty : goal.look_inside-returns-then-is_empty
 look_inside-returns-then-is_empty t c =
     let it = c.loop in
     let n = length c.contents_of-left.result.now - it.counter in
-    let look = within (c.args.depth - 1) in
-    ended it.uses.items (members look n (standing_of it.cursor) c.args.place.now it.next it.left.now) _ it.invariant.0
-    (ap (λ octets. members look n (standing_of it.cursor) c.args.place.now it.next octets) (no_octets it.left.now c.if-is_empty.ensures)
-    ∙ none_left look n (standing_of it.cursor) c.args.place.now it.next)
+    let look = within (c.args.depth - 1) c.args.part in
+    ended it.uses.items (members look n (standing_of it.cursor) (record { part = c.args.part; octets = c.args.place.now }) it.next it.left.now) _ it.invariant.0
+    (ap (λ octets. members look n (standing_of it.cursor) (record { part = c.args.part; octets = c.args.place.now }) it.next octets) (no_octets it.left.now c.if-is_empty.ensures)
+    ∙ none_left look n (standing_of it.cursor) (record { part = c.args.part; octets = c.args.place.now }) it.next)
 
 pub look_inside-returns-in_default-see : goal.look_inside-returns-in_default-see
 look_inside-returns-in_default-see t c =
     let it = c.loop in
     let all = length c.contents_of-left.result.now in
-    let look = within (c.args.depth - 1) in
+    let look = within (c.args.depth - 1) c.args.part in
     let left : all - it.counter ≡ suc (all - (it.counter + 1)) = omega (arith, c.loop-test.true) in
-    last_added it.uses.items c.add.new.uses.items (one_use BytesBehind it.next) (members look (all - it.counter) (standing_of it.cursor) c.args.place.now it.next it.left.now) _ c.in_ok-add.ensures
-    (ap (λ n. members look n (standing_of it.cursor) c.args.place.now it.next it.left.now) left
-    ∙ member_unseen look (all - (it.counter + 1)) (standing_of it.cursor) c.args.place.now it.next it.left.now (some_octets it.left.now c.if-is_empty.ensures) c.in_default-see.ensures.found)
+    last_added it.uses.items c.add.new.uses.items (one_use BytesBehind it.next) (members look (all - it.counter) (standing_of it.cursor) (record { part = c.args.part; octets = c.args.place.now }) it.next it.left.now) _ c.in_ok-add.ensures
+    (ap (λ n. members look n (standing_of it.cursor) (record { part = c.args.part; octets = c.args.place.now }) it.next it.left.now) left
+    ∙ member_unseen look (all - (it.counter + 1)) (standing_of it.cursor) (record { part = c.args.part; octets = c.args.place.now }) it.next it.left.now (some_octets it.left.now c.if-is_empty.ensures) c.in_default-see.ensures.found)
     it.invariant.0
 
 pub look_inside-returns-then-is_absent : goal.look_inside-returns-then-is_absent
 look_inside-returns-then-is_absent t c =
     let it = c.loop in
     let all = length c.contents_of-left.result.now in
-    let look = within (c.args.depth - 1) in
+    let look = within (c.args.depth - 1) c.args.part in
     let left : all - it.counter ≡ suc (all - (it.counter + 1)) = omega (arith, c.loop-test.true) in
     let step : Step = (called_of c.step.result.0, standing_of c.step.result.1) in
-    last_added it.uses.items c.add-then-is_absent.new.uses.items (one_use (unread_rule (called_of c.step.result.0).part) it.next) (members look (all - it.counter) (standing_of it.cursor) c.args.place.now it.next it.left.now) _ (c.in_ok-add-2.ensures ∙ ap (λ rule. it.uses.items ++ one_use rule it.next) c.unread_rule.ensures)
-    (ap (λ n. members look n (standing_of it.cursor) c.args.place.now it.next it.left.now) left
-    ∙ member_absent look (all - (it.counter + 1)) (standing_of it.cursor) c.args.place.now it.next it.left.now (seen_of c.in-Some-see.member) step c.in_ok-judged.judged
+    last_added it.uses.items c.add-then-is_absent.new.uses.items (one_use (unread_rule (called_of c.step.result.0).part) it.next) (members look (all - it.counter) (standing_of it.cursor) (record { part = c.args.part; octets = c.args.place.now }) it.next it.left.now) _ (c.in_ok-add-2.ensures ∙ ap (λ rule. it.uses.items ++ one_use rule it.next) c.unread_rule.ensures)
+    (ap (λ n. members look n (standing_of it.cursor) (record { part = c.args.part; octets = c.args.place.now }) it.next it.left.now) left
+    ∙ member_absent look (all - (it.counter + 1)) (standing_of it.cursor) (record { part = c.args.part; octets = c.args.place.now }) it.next it.left.now (seen_of c.in-Some-see.member) step c.in_ok-judged.judged
     (some_octets it.left.now c.if-is_empty.ensures) c.in-Some-see.ensures.found c.step.ensures c.in_ok-judged.ensures (absent_is c.in_ok-judged.judged c.if-is_absent.ensures))
     it.invariant.0
 
@@ -81,19 +81,19 @@ pub look_inside-loop-preserved : goal.look_inside-loop-preserved
 look_inside-loop-preserved t c =
     let it = c.loop in
     let all = length c.contents_of-left.result.now in
-    let look = within (c.args.depth - 1) in
+    let look = within (c.args.depth - 1) c.args.part in
     let left : all - it.counter ≡ suc (all - (it.counter + 1)) = omega (arith, c.loop-test.true) in
     let s = seen_of c.in-Some-see.member in
     let called = called_of c.step.result.0 in
     let step : Step = (called, standing_of c.step.result.1) in
     let found = it.uses.items in
-    let rest = members look (all - (it.counter + 1)) (standing_of c.step.result.1) c.args.place.now (it.next + size_of s) c.behind_of-left.result.now in
+    let rest = members look (all - (it.counter + 1)) (standing_of c.step.result.1) (record { part = c.args.part; octets = c.args.place.now }) (it.next + size_of s) c.behind_of-left.result.now in
     let grew = c.in_ok-tell.ensures ∙ ap (λ rule. found ++ told rule c.in_ok-judged.judged it.next (inside (c.args.depth - 1) called.part it.next it.left.now)) c.rule_of-rule.ensures in (
-      goes_on found c.tell.new.uses.items (look called c.in_ok-judged.judged it.next it.left.now) (members look (all - it.counter) (standing_of it.cursor) c.args.place.now it.next it.left.now) rest _ grew
-          (ap (λ n. members look n (standing_of it.cursor) c.args.place.now it.next it.left.now) left
-          ∙ member_there look (all - (it.counter + 1)) (standing_of it.cursor) c.args.place.now it.next it.left.now s step c.in_ok-judged.judged
+      goes_on found c.tell.new.uses.items (look called c.in_ok-judged.judged it.next it.left.now) (members look (all - it.counter) (standing_of it.cursor) (record { part = c.args.part; octets = c.args.place.now }) it.next it.left.now) rest _ grew
+          (ap (λ n. members look n (standing_of it.cursor) (record { part = c.args.part; octets = c.args.place.now }) it.next it.left.now) left
+          ∙ member_there look (all - (it.counter + 1)) (standing_of it.cursor) (record { part = c.args.part; octets = c.args.place.now }) it.next it.left.now s step c.in_ok-judged.judged
           (some_octets it.left.now c.if-is_empty.ensures) c.in-Some-see.ensures.found c.step.ensures c.in_ok-judged.ensures (present_is c.in_ok-judged.judged c.if-is_absent.ensures)
-          ∙ ap (λ octets. look called c.in_ok-judged.judged it.next it.left.now ++ members look (all - (it.counter + 1)) (standing_of c.step.result.1) c.args.place.now (it.next + size_of s) octets) (sym c.behind_of-left.ensures))
+          ∙ ap (λ octets. look called c.in_ok-judged.judged it.next it.left.now ++ members look (all - (it.counter + 1)) (standing_of c.step.result.1) (record { part = c.args.part; octets = c.args.place.now }) (it.next + size_of s) octets) (sym c.behind_of-left.ensures))
           it.invariant.0,
       omega (arith, it.invariant.1, c.in-Some-see.ensures.sizes, behind_fits called.part s, ap (λ (octets : List ℕ). length octets) c.behind_of-left.ensures),
       ap (λ (p : Step). p.1.number) c.step.ensures ∙ counted (standing_of it.cursor) s ∙ ap (λ n. n + 1) it.invariant.2,

@@ -13,7 +13,7 @@ decreases-tell l = l.depth * 2 + 1
 
 abbrev pub invariant-look_inside-loop : goal.invariant-look_inside-loop
 invariant-look_inside-loop l =
-    (l.uses.items ++ members (within (l.fn.depth - 1)) (l.end - l.counter) (standing_of l.cursor) l.fn.place l.next l.left
+    (l.uses.items ++ members (within (l.fn.depth - 1) l.fn.part) (l.end - l.counter) (standing_of l.cursor) (record { part = l.fn.part; octets = l.fn.place }) l.next l.left
     ≡ l.fn.uses.items ++ inside l.fn.depth l.fn.part l.fn.at l.fn.place)
     × (l.next + length l.left ≤ l.fn.at + length l.fn.place)
     × ((standing_of l.cursor).number ≡ l.counter)
