@@ -66,7 +66,7 @@ judgement look n standing around at place s step j some is goes told =
 
 pub member_absent : (look : Look) (n : ℕ) (standing : Standing) (around : Around) (at : ℕ) (place : List ℕ) (s : Seen) (step : Step) (j : Judged) → 0 < length place → Some s ≡ seen place
     → step ≡ stepped standing s.header s.contents → j ≡ judged step.0 around place → j ≡ Absent
-    → members look (suc n) standing around at place ≡ one_use (unread_rule step.0.part) at
+    → members look (suc n) standing around at place ≡ one_use (unread_rule step.0) at
 member_absent look n standing around at place s step j some is goes told absent =
     judgement look n standing around at place s step Absent some is goes (sym absent ∙ told)
 

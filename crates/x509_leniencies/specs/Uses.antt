@@ -93,14 +93,18 @@ Look = Called → Judged → ℕ → List ℕ → List Use
 abbrev pub More : Type 0
 More = Standing → ℕ → List ℕ → List Use
 
--- by which rule what stands as such a part, but can't be read, is passed over
-abbrev pub unread_rule : Part → Leniency
-unread_rule parts.Unknown = BytesBehind
-unread_rule parts.Unread = BytesBehind
-unread_rule _ = UnreadableField
+-- by which rule a member is passed over that can't be read: one of a list ends it, and so does what is no field; a field is absent then
+abbrev pub unread_by : Option ℕ → Part → Leniency
+unread_by (Some number) part = BytesBehind
+unread_by None parts.Unknown = BytesBehind
+unread_by None parts.Unread = BytesBehind
+unread_by None _ = UnreadableField
+
+abbrev pub unread_rule : Called → Leniency
+unread_rule c = unread_by c.number c.part
 
 abbrev pub member_judged : Look → More → Step → ℕ → List ℕ → Seen → Judged → List Use
-member_judged look more step at place s Absent = one_use (unread_rule step.0.part) at
+member_judged look more step at place s Absent = one_use (unread_rule step.0) at
 member_judged look more step at place s j = look step.0 j at place ++ more step.1 (at + size_of s) (behind_of step.0.part s)
 
 abbrev pub member_stepped : Look → More → Around → ℕ → List ℕ → Seen → Step → List Use

@@ -96,13 +96,13 @@ fn part_rule(part: Part) -> Leniency
     }
 }
 
-/// The rule by which what stands as such a part, but can't be read, is passed over.
-fn unread_rule(part: Part) -> Leniency
-    ensures { result ≡ unread_rule part }
+/// The rule by which a member is passed over that can't be read.
+fn unread_rule(called: &Called) -> Leniency
+    ensures { result ≡ unread_rule (called_of called.now) }
 {
-    match part {
-        Part::Unknown | Part::Unread => Leniency::BytesBehind,
-        _ => Leniency::UnreadableField,
+    match (called.number, called.part) {
+        (Some(_), _) | (None, Part::Unknown | Part::Unread) => Leniency::BytesBehind,
+        (None, _) => Leniency::UnreadableField,
     }
 }
 
@@ -177,7 +177,7 @@ fn look_inside(
         let (called, behind) = cursor.step(&member.header, member.contents);
         let judged = judge(alloc, &called, part, place, left)?;
         if is_absent(judged) {
-            add(uses, unread_rule(called.part), next)?;
+            add(uses, unread_rule(&called), next)?;
             return Ok(());
         }
         let rule = rule_of(part, &called);

@@ -71,7 +71,7 @@ look_inside-returns-then-is_absent t c =
     let look = within (c.args.depth - 1) c.args.part in
     let left : all - it.counter ≡ suc (all - (it.counter + 1)) = omega (arith, c.loop-test.true) in
     let step : Step = (called_of c.step.result.0, standing_of c.step.result.1) in
-    last_added it.uses.items c.add-then-is_absent.new.uses.items (one_use (unread_rule (called_of c.step.result.0).part) it.next) (members look (all - it.counter) (standing_of it.cursor) (record { part = c.args.part; octets = c.args.place.now }) it.next it.left.now) _ (c.in_ok-add-2.ensures ∙ ap (λ rule. it.uses.items ++ one_use rule it.next) c.unread_rule.ensures)
+    last_added it.uses.items c.add-then-is_absent.new.uses.items (one_use (unread_rule (called_of c.step.result.0)) it.next) (members look (all - it.counter) (standing_of it.cursor) (record { part = c.args.part; octets = c.args.place.now }) it.next it.left.now) _ (c.in_ok-add-2.ensures ∙ ap (λ rule. it.uses.items ++ one_use rule it.next) c.unread_rule.ensures)
     (ap (λ n. members look n (standing_of it.cursor) (record { part = c.args.part; octets = c.args.place.now }) it.next it.left.now) left
     ∙ member_absent look (all - (it.counter + 1)) (standing_of it.cursor) (record { part = c.args.part; octets = c.args.place.now }) it.next it.left.now (seen_of c.in-Some-see.member) step c.in_ok-judged.judged
     (some_octets it.left.now c.if-is_empty.ensures) c.in-Some-see.ensures.found c.step.ensures c.in_ok-judged.ensures (absent_is c.in_ok-judged.judged c.if-is_absent.ensures))
