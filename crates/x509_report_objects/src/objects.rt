@@ -176,8 +176,8 @@ fn say_certificate(
     seen: &Seen<'_>,
     certificate: &X509Certificate<'_>,
 ) -> Result<(), AllocError>
-    ensures { Says result out.old out.new (object_report (codes "certificate") Part.Certificate (wishes_of wishes.now) (found_of place.now) seen.now.octets.now seen.now.plain
-        seen.now.rest.now (certificate_members wishes.now.fingerprints (certificate_of certificate.now))) }
+    ensures { Says result out.old out.new (object_report (codes "certificate") Part.Certificate (wishes_of wishes.now) (found_of place.now) seen.now.octets.now
+        seen.now.plain seen.now.rest.now (certificate_members wishes.now.fingerprints (certificate_of certificate.now))) }
 {
     out.begin_object()?;
     say_place(out, "certificate", place)?;
@@ -237,8 +237,8 @@ fn say_list(
     seen: &Seen<'_>,
     list: &CertificateRevocationList<'_>,
 ) -> Result<(), AllocError>
-    ensures { Says result out.old out.new (object_report (codes "list") Part.List (wishes_of wishes.now) (found_of place.now) seen.now.octets.now seen.now.plain
-        seen.now.rest.now (list_members (list_of list.now))) }
+    ensures { Says result out.old out.new (object_report (codes "list") Part.List (wishes_of wishes.now) (found_of place.now) seen.now.octets.now
+        seen.now.plain seen.now.rest.now (list_members (list_of list.now))) }
 {
     out.begin_object()?;
     say_place(out, "list", place)?;
@@ -298,8 +298,8 @@ fn say_request(
     seen: &Seen<'_>,
     request: &X509CertificationRequest<'_>,
 ) -> Result<(), AllocError>
-    ensures { Says result out.old out.new (object_report (codes "request") Part.Request (wishes_of wishes.now) (found_of place.now) seen.now.octets.now seen.now.plain
-        seen.now.rest.now (request_members wishes.now.fingerprints (certification_request_of request.now))) }
+    ensures { Says result out.old out.new (object_report (codes "request") Part.Request (wishes_of wishes.now) (found_of place.now) seen.now.octets.now
+        seen.now.plain seen.now.rest.now (request_members wishes.now.fingerprints (certification_request_of request.now))) }
 {
     out.begin_object()?;
     say_place(out, "request", place)?;
@@ -501,7 +501,8 @@ fn attempt_under(
     kind: &str,
     word: &str,
 ) -> Result<(), AllocError>
-    ensures { SaysUnder result out.old out.new key.now (array (items_of (attempt_report kind.now None word.now None None (all_uses Part.Unknown [] []) ∷ []))) }
+    ensures { SaysUnder result out.old out.new key.now
+        (array (items_of (attempt_report kind.now None word.now None None (all_uses Part.Unknown [] []) ∷ []))) }
 {
     let failure = Failure {
         kind,
