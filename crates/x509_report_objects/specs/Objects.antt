@@ -53,15 +53,18 @@ pub record Refused : Type 0 where
 abbrev pub refused_at : {A : Type 0} → Field A → List ℕ → ℕ
 refused_at field octets = length octets - field.stop added octets 0
 
--- what was tried, why it failed, at which octet, the path of fields that leads there, and the lenient rules that were needed
-abbrev pub attempt_report : List ℕ → Option (List ℕ) → List ℕ → Option ℕ → Option (List ℕ) → Json → Json
-attempt_report kind error word at path rules = record_of (
+-- what was tried, why it failed, at which octet, and the path of fields that leads there
+abbrev pub attempt_members : List ℕ → Option (List ℕ) → List ℕ → Option ℕ → Option (List ℕ) → List (List ℕ × Json)
+attempt_members kind error word at path =
     (codes "kind", string kind) ∷
     (codes "error", optional (λ s. string s) error) ∷
     (codes "word", string word) ∷
     (codes "at", optional count at) ∷
-    (codes "path", optional (λ s. string s) path) ∷
-    (codes "leniencies", rules) ∷ [])
+    (codes "path", optional (λ s. string s) path) ∷ []
+
+-- and the lenient rules that were needed
+abbrev pub attempt_report : List ℕ → Option (List ℕ) → List ℕ → Option ℕ → Option (List ℕ) → Json → Json
+attempt_report kind error word at path rules = record_of (attempt_members kind error word at path ++ (codes "leniencies", rules) ∷ [])
 
 -- a reader of a kind that was tried, and why it refuses
 pub record Attempted : Type 0 where

@@ -6,7 +6,7 @@ ghost use Rattle.x509_certs.specs.Certificate.{certificate, certificate_of};
 ghost use Rattle.x509_lists.specs.CertificateList.{certificate_list, list_of};
 ghost use Rattle.x509_requests.specs.Request.{certification_request, certification_request_of};
 ghost use Rattle.x509_report_lines.specs.Says.{Says, SaysEach, SaysMembers, SaysUnder, count, items_of, list_of as array_of, optional, written};
-ghost use Rattle.x509_report_objects.specs.Objects.{all_tried, attempt_report, certificate_told, failed_report, found_members, is_strict, list_told, object_told, octet_of};
+ghost use Rattle.x509_report_objects.specs.Objects.{all_tried, attempt_members, attempt_report, certificate_told, failed_report, found_members, is_strict, list_told, object_told, octet_of};
 ghost use Rattle.x509_report_objects.specs.Objects.{object_report, refusal_report, request_told, skipped_report, standing_members, tried_by};
 ghost use Rattle.x509_report_objects.specs.Objects.{tried_report};
 ghost use Rattle.x509_report_objects.specs.Certificates.{certificate_members};
@@ -360,36 +360,22 @@ fn octet_under(out: &mut Line, key: &str, at: Option<usize>) -> Result<(), Alloc
 }
 
 /// What was tried, why it failed, at which octet, and the path that leads there.
-#[derive(Clone, Copy)]
-struct Failure<'a> {
-    kind: &'a str,
-    error: Option<&'a str>,
-    word: &'a str,
-    at: Option<usize>,
-    path: Option<&'a str>,
-}
-
-/// The same, and the lenient rules that these octets needed as such a part.
 fn say_attempt(
-    alloc: Global,
     out: &mut Line,
-    failure: &Failure<'_>,
-    part: Part,
-    octets: &[u8],
-    uses: &[LenientUse],
+    kind: &str,
+    error: Option<&str>,
+    word: &str,
+    at: Option<usize>,
+    path: Option<&str>,
 ) -> Result<(), AllocError>
-    ensures { Says result out.old out.new (attempt_report failure.now.kind.now (option_map (λ s. s.now) failure.now.error) failure.now.word.now failure.now.at
-        (option_map (λ s. s.now) failure.now.path) (all_uses part octets.now uses.now)) }
+    ensures { SaysMembers result out.old out.new
+        (attempt_members kind.now (option_map (λ s. s.now) error.entry) word.now at (option_map (λ s. s.now) path.entry)) }
 {
-    out.begin_object()?;
-    text_under(out, "kind", failure.kind)?;
-    optional_text_under(out, "error", failure.error)?;
-    text_under(out, "word", failure.word)?;
-    octet_under(out, "at", failure.at)?;
-    optional_text_under(out, "path", failure.path)?;
-    uses_under(alloc, out, "leniencies", part, octets, uses)?;
-    out.end_object()?;
-    Ok(())
+    text_under(out, "kind", kind)?;
+    optional_text_under(out, "error", error)?;
+    text_under(out, "word", word)?;
+    octet_under(out, "at", at)?;
+    optional_text_under(out, "path", path)
 }
 
 /// Whether this is a refusal of what a strict reader alone doesn't take.
@@ -425,14 +411,19 @@ fn say_refused(
             let uses = uses_unless(alloc, !is_strict(&why), part, octets)?;
             let at = octet_of(at, uses.as_slice());
             let path = path_to(alloc, part, octets, at)?;
-            let failure = Failure {
+            let error = refusal_name(&why);
+            out.begin_object()?;
+            say_attempt(
+                out,
                 kind,
-                error: Some(refusal_name(&why)),
-                word: why.word(),
-                at: Some(at),
-                path: some_text(path.as_str()),
-            };
-            say_attempt(alloc, out, &failure, part, octets, uses.as_slice())
+                Some(error),
+                why.word(),
+                Some(at),
+                some_text(path.as_str()),
+            )?;
+            uses_under(alloc, out, "leniencies", part, octets, uses.as_slice())?;
+            out.end_object()?;
+            Ok(())
         }
         None => Ok(()),
     }
@@ -504,16 +495,12 @@ fn attempt_under(
     ensures { SaysUnder result out.old out.new key.now
         (array (items_of (attempt_report kind.now None word.now None None (all_uses Part.Unknown [] []) ∷ []))) }
 {
-    let failure = Failure {
-        kind,
-        error: None,
-        word,
-        at: None,
-        path: None,
-    };
     out.key(key)?;
     out.begin_array()?;
-    say_attempt(alloc, out, &failure, Part::Unknown, &[], &[])?;
+    out.begin_object()?;
+    say_attempt(out, kind, None, word, None, None)?;
+    uses_under(alloc, out, "leniencies", Part::Unknown, &[], &[])?;
+    out.end_object()?;
     out.end_array()?;
     Ok(())
 }
