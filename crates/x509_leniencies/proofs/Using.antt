@@ -1,5 +1,5 @@
 -- One member after another, of one element inside another.
-use Rattle.std.proofs.Common.{◌≡◌, ℕ, suc, zero, ◌+◌, ◌-◌, ◌<◌, ◌≤◌, ◌==◌, Bool, true, false, drop, if◌then◌else◌, List, [], ◌∷◌, ◌++◌, length, map, Option, Some, None, sym, ap, ◌∙◌, refl, arith, append_assoc, append-nil}
+use Rattle.std.proofs.Common.{◌≡◌, ℕ, suc, zero, ◌+◌, ◌<◌, ◌≤◌, ◌==◌, Bool, true, false, drop, if◌then◌else◌, List, [], ◌∷◌, ◌++◌, length, Option, Some, None, sym, ap, ◌∙◌, refl, arith, append_assoc, append-nil}
 use Rattle.std.proofs.lemmas.Bool.Decides.{nat_tests}
 use Rattle.std.proofs.lemmas.List.{length-drop}
 use Rattle.x509_der.proofs.Marked.{nothing}
@@ -13,7 +13,7 @@ use Rattle.x509_leniencies.specs.declared.judged.Judged.{Judged}
 use Rattle.x509_leniencies.specs.declared.judged.Judged.TheVariants.{Absent, Plain, Lenient, Unjudged}
 use Rattle.x509_leniencies.specs.Judgements.{Around, is_absent, is_leaf, judged}
 use Rattle.x509_leniencies.specs.declared.leniency.Leniency.TheVariants.{BytesBehind}
-use Rattle.x509_leniencies.specs.Uses.{Look, Use, behind_of, contents_of, inside, inside_seen, is_wrapper, member_judged, member_seen, member_stepped, members, one_use, own_rule, own_uses, rule_of, told, unread_rule, uses}
+use Rattle.x509_leniencies.specs.Uses.{Look, Use, behind_of, contents_of, inside, inside_seen, is_wrapper, member_judged, member_seen, member_stepped, members, one_use, own_rule, own_uses, rule_of, told, unread_rule}
 
 -- what is looked at in an element that may be so deep
 abbrev pub within : ℕ → Part → Look

@@ -1,10 +1,10 @@
 -- One member more, and what is used in it.
-use Rattle.std.proofs.Common.{◌≡◌, ℕ, List, suc, zero, ◌+◌, ◌-◌, ◌<◌, ◌++◌, length, sym, ap, ◌∙◌, arith}
-use Rattle.x509_paths.specs.Cursors.{Step, called_of, standing_of, stepped}
+use Rattle.std.proofs.Common.{◌≡◌, ℕ, List, suc, zero, ◌+◌, ◌-◌, ◌++◌, length, sym, ap, ◌∙◌, arith}
+use Rattle.x509_paths.specs.Cursors.{Step, called_of, standing_of}
 use Rattle.x509_paths.specs.Seen.{seen_of}
 use Rattle.x509_paths.specs.Paths.{size_of}
 use Rattle.x509_leniencies.specs.declared.leniency.Leniency.TheVariants.{BytesBehind}
-use Rattle.x509_leniencies.specs.Uses.{contents_of, inside, members, one_use, own_rule, own_uses, rule_of, told, unread_rule}
+use Rattle.x509_leniencies.specs.Uses.{inside, members, one_use, own_rule, own_uses, told, unread_rule}
 use Rattle.x509_leniencies.proofs.Using.{absent_is, begins, begun, behind_fits, contents_fit, counted, ended, goes_on, inside_deepest, inside_unseen, last_added, member_absent, member_there, member_unseen, no_members, no_octets, none_left, nothing_more, present_is, some_octets, within}
 use Rattle.x509_leniencies.proofs.walk.+walking.Goals as goal
 
