@@ -1,10 +1,10 @@
 -- What a report says of the lenient rules that an object uses (docs/GRAMMAR.md).
-use Rattle.std.specs.Prelude.{ℕ, Bool, List, [], ◌∷◌, ◌++◌, codes, drop, map, take, Option, Some, None, if◌then◌else◌}
-use Rattle.json.specs.Json.{Json, array, string}
+use Rattle.std.specs.Prelude.{ℕ, Bool, List, [], ◌∷◌, codes, take, Option, if◌then◌else◌}
+use Rattle.json.specs.Json.{Json, string}
 use Rattle.x509_leniencies.specs.Uses.{Use, leniencies}
 use Rattle.x509_leniencies.specs.Words.{leniency_word}
 use Rattle.x509_paths.specs.declared.part.Part.{Part}
-use Rattle.x509_report_lines.specs.Says.{count, items_of, optional, record_of}
+use Rattle.x509_report_lines.specs.Says.{count, list_of, optional, record_of}
 use Rattle.x509_report_objects.specs.RefusedValues.{path_in}
 
 -- a rule, the octet of the object at which it is used, and the path of fields that leads there
@@ -17,16 +17,13 @@ use_report path u = record_of (
 abbrev pub use_with_path : Part → List ℕ → Use → Json
 use_with_path part octets u = use_report (path_in part octets u.at) u
 
--- The first hundred with their paths, each of which is looked for from the front of the object on.
-abbrev pub use_reports : Part → List ℕ → List Use → List Json
-use_reports part octets us = map (use_with_path part octets) (take 100 us) ++ map (use_report None) (drop 100 us)
-
-abbrev pub all_uses : Part → List ℕ → List Use → Json
-all_uses part octets us = array (items_of (use_reports part octets us))
+-- the first hundred: the path of each is looked for from the front of the object on
+abbrev pub first_uses : Part → List ℕ → List Use → Json
+first_uses part octets us = list_of (use_with_path part octets) (take 100 us)
 
 -- what stands plainly uses none
 abbrev pub uses_unless : Bool → Part → List ℕ → List Use
 uses_unless plain part octets = if plain then [] else leniencies part octets
 
 abbrev pub lenient_members : Bool → Part → List ℕ → List (List ℕ × Json)
-lenient_members plain part octets = (codes "leniencies", all_uses part octets (uses_unless plain part octets)) ∷ []
+lenient_members plain part octets = (codes "leniencies", first_uses part octets (uses_unless plain part octets)) ∷ []

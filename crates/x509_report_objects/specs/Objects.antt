@@ -25,7 +25,7 @@ use Rattle.x509_report_objects.specs.Errors.{refusal_name}
 use Rattle.x509_report_objects.specs.Lists.{list_members}
 use Rattle.x509_report_objects.specs.Places.{Found, Wishes, place_members, octets_members}
 use Rattle.x509_leniencies.specs.Uses.{Use}
-use Rattle.x509_report_objects.specs.Leniencies.{all_uses, lenient_members, uses_unless}
+use Rattle.x509_report_objects.specs.Leniencies.{first_uses, lenient_members, uses_unless}
 use Rattle.x509_report_objects.specs.RefusedValues.{path_in, refused_members}
 use Rattle.x509_report_objects.specs.Requests.{request_members}
 
@@ -88,7 +88,7 @@ octet_of at (u ∷ us) = u.at
 
 abbrev pub told_of : List ℕ → Attempted → List Use → ℕ → Json
 told_of octets a rules at =
-    attempt_report a.kind (Some (refusal_name a.refused.why)) (refusal_word x509_word a.refused.why) (Some at) (path_in a.part octets at) (all_uses a.part octets rules)
+    attempt_report a.kind (Some (refusal_name a.refused.why)) (refusal_word x509_word a.refused.why) (Some at) (path_in a.part octets at) (first_uses a.part octets rules)
 
 abbrev pub tried_with : List ℕ → Attempted → List Use → Json
 tried_with octets a rules = told_of octets a rules (octet_of a.refused.at rules)
@@ -121,7 +121,7 @@ unfoldable pub failed_report : Wishes → Found → List ℕ → List ℕ → Li
 failed_report w p octets kind word = record_of (
     place_members (codes "refusal") p
     ++ octets_members w.fingerprints p octets
-    ++ (codes "tried", array (items_of (attempt_report kind None word None None (all_uses parts.Unknown [] []) ∷ []))) ∷ [])
+    ++ (codes "tried", array (items_of (attempt_report kind None word None None (first_uses parts.Unknown [] []) ∷ []))) ∷ [])
 
 -- of a block that holds none of the objects that are wanted, by its label
 unfoldable pub skipped_report : Wishes → Found → List ℕ → Json

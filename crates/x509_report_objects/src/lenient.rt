@@ -1,9 +1,9 @@
 //! What a report says of the lenient rules that an object uses.
 
-ghost use Rattle.std.specs.Prelude.{◌≡◌, None, drop, option_map, take, MatchResult, ⊤};
+ghost use Rattle.std.specs.Prelude.{◌≡◌, option_map, take, MatchResult, ⊤};
 ghost use Rattle.x509_leniencies.specs.Words.{leniency_word};
 ghost use Rattle.x509_report_lines.specs.Says.{Says, SaysEach, SaysUnder};
-ghost use Rattle.x509_report_objects.specs.Leniencies.{all_uses, use_report, use_reports, use_with_path, uses_unless};
+ghost use Rattle.x509_report_objects.specs.Leniencies.{first_uses, use_report, use_with_path, uses_unless};
 
 use crate::refused_values::some_text;
 use crate::values::{count_under, optional_text_under, text_under};
@@ -12,8 +12,8 @@ use x509_leniencies::{LenientUse, leniencies};
 use x509_paths::{Part, path_to};
 use x509_report_lines::Line;
 
-/// Of how many rules the paths are looked for.
-const PATHS: usize = 100;
+/// How many rules are told.
+const TOLD: usize = 100;
 
 /// A rule, at which octet it is used, and the path that leads there.
 fn say_use(out: &mut Line, path: Option<&str>, used: &LenientUse) -> Result<(), AllocError>
@@ -57,16 +57,6 @@ fn say_each_with_path(
     Ok(())
 }
 
-/// Rules without a path, one after another.
-fn say_each(out: &mut Line, uses: &[LenientUse]) -> Result<(), AllocError>
-    ensures { SaysEach result out.old out.new (use_report None) uses.now }
-{
-    for used in uses {
-        say_use(out, None, used)?;
-    }
-    Ok(())
-}
-
 /// The first rules, so many where there are more.
 fn first_of(uses: &[LenientUse], count: usize) -> &[LenientUse]
     ensures { result.now ≡ take count uses.now }
@@ -78,34 +68,8 @@ fn first_of(uses: &[LenientUse], count: usize) -> &[LenientUse]
     }
 }
 
-/// The rules behind the first ones.
-fn behind(uses: &[LenientUse], count: usize) -> &[LenientUse]
-    ensures { result.now ≡ drop count uses.now }
-{
-    if count <= uses.len() {
-        &uses[count..]
-    } else {
-        &[]
-    }
-}
-
-/// All rules, one after another.
-#[tactic(auto, using(crate::proofs::Attempted::each_of_two))]
-fn say_uses(
-    alloc: Global,
-    out: &mut Line,
-    part: Part,
-    octets: &[u8],
-    uses: &[LenientUse],
-) -> Result<(), AllocError>
-    ensures { SaysEach result out.old out.new (λ report. report) (use_reports part octets.now uses.now) }
-{
-    say_each_with_path(alloc, out, part, octets, first_of(uses, PATHS))?;
-    say_each(out, behind(uses, PATHS))
-}
-
-/// These rules, of the object at the front of the octets, which is such a part, under a key.
-#[tactic(auto, using(crate::proofs::Attempted::items_listed))]
+/// The first of these rules, of the object at the front of the octets, which is such a part, under a key.
+#[tactic(auto, using(x509_report_lines::proofs::Written::list_written))]
 pub(crate) fn uses_under(
     alloc: Global,
     out: &mut Line,
@@ -114,11 +78,11 @@ pub(crate) fn uses_under(
     octets: &[u8],
     uses: &[LenientUse],
 ) -> Result<(), AllocError>
-    ensures { SaysUnder result out.old out.new key.now (all_uses part octets.now uses.now) }
+    ensures { SaysUnder result out.old out.new key.now (first_uses part octets.now uses.now) }
 {
     out.key(key)?;
     out.begin_array()?;
-    say_uses(alloc, out, part, octets, uses)?;
+    say_each_with_path(alloc, out, part, octets, first_of(uses, TOLD))?;
     out.end_array()?;
     Ok(())
 }
@@ -147,7 +111,7 @@ pub(crate) fn leniencies_under(
     part: Part,
     octets: &[u8],
 ) -> Result<(), AllocError>
-    ensures { SaysUnder result out.old out.new key.now (all_uses part octets.now (uses_unless plain part octets.now)) }
+    ensures { SaysUnder result out.old out.new key.now (first_uses part octets.now (uses_unless plain part octets.now)) }
 {
     let uses = uses_unless(alloc, plain, part, octets)?;
     uses_under(alloc, out, key, part, octets, uses.as_slice())

@@ -13,7 +13,7 @@ ghost use Rattle.x509_report_objects.specs.Certificates.{certificate_members};
 ghost use Rattle.x509_report_objects.specs.Lists.{list_members};
 ghost use Rattle.x509_report_objects.specs.Requests.{request_members};
 ghost use Rattle.x509_report_objects.specs.Places.{octets_members, place_members};
-ghost use Rattle.x509_report_objects.specs.Leniencies.{all_uses};
+ghost use Rattle.x509_report_objects.specs.Leniencies.{first_uses};
 ghost use Rattle.x509_report_objects.specs.Attempts.{Attempts, found_of, refused_of, tried_of, wishes_of};
 
 use crate::certificates::certificate_members;
@@ -493,7 +493,7 @@ fn attempt_under(
     word: &str,
 ) -> Result<(), AllocError>
     ensures { SaysUnder result out.old out.new key.now
-        (array (items_of (attempt_report kind.now None word.now None None (all_uses Part.Unknown [] []) ∷ []))) }
+        (array (items_of (attempt_report kind.now None word.now None None (first_uses Part.Unknown [] []) ∷ []))) }
 {
     out.key(key)?;
     out.begin_array()?;
