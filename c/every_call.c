@@ -296,6 +296,37 @@ static void paths(const uint8_t *der, size_t length) {
         }
 }
 
+/* What is told of an object beside its fields, with no room, room for one, and for more. A strict reader takes what uses no rule, and no more. */
+static void findings(const uint8_t *der, size_t length, uint32_t kind) {
+    rtv_lenient_use uses[ROOM];
+    rtv_refused_value values[ROOM];
+    uint8_t text[32];
+    size_t whole;
+    bool taken = rtv_json(der, length, kind, false, text, sizeof text, &whole) == RTV_OK;
+    bool strictly = rtv_json(der, length, kind, true, text, sizeof text, &whole) == RTV_OK;
+    for (size_t room = 0; room <= ROOM; room += room ? ROOM - 1 : 1) {
+        size_t used = 77777, refused = 77777;
+        rtv_init_lenient_uses(uses, ROOM);
+        rtv_init_refused_values(values, ROOM);
+        rtv_status status = rtv_leniencies(der, length, kind, uses, room, &used);
+        must(status == (kind % 4 ? RTV_OK : RTV_NOT_FOUND), "a kind that is none");
+        must(rtv_refused_values(der, length, kind, values, room, &refused) == status, "another status of a kind");
+        must((status == RTV_OK) == (used != 77777) && (status == RTV_OK) == (refused != 77777), "a result of a refusal");
+        if (status != RTV_OK) continue;
+        must(!taken || (used == 0) == strictly, "rules of what is strict, or none of what isn't");
+        for (size_t k = 0; k < used && k < room; k++) {
+            must(uses[k].at <= length, "a rule outside of the buffer");
+            must(rtv_rule_word(uses[k].rule, text, sizeof text) < sizeof text && strcmp((char *)text, "unknown") != 0, "a rule without a name");
+        }
+        for (size_t k = 0; k < refused && k < room; k++) {
+            must(values[k].value_at <= values[k].at && values[k].at <= values[k].value_at + values[k].value_length, "a refusal outside of its value");
+            must(values[k].value_at + values[k].value_length <= length, "a value outside of the buffer");
+            told(values[k].status, values[k].at, 9, length);
+        }
+        for (size_t k = room; k < ROOM; k++) must(uses[k].rule == 0 && values[k].status == RTV_OK, "a row behind those there is room for");
+    }
+}
+
 static void certificate(const uint8_t *der, size_t length) {
     rtv_extension rows[ROOM];
     bool taken[2] = { false, false };
@@ -413,6 +444,7 @@ static void all(const uint8_t *der, size_t length) {
     list(der, length);
     request(der, length);
     report(der, length);
+    for (uint32_t kind = 0; kind < 5; kind++) findings(der, length, kind);
     if (length < 256) every_value(der, length), validation(der, length);
 }
 

@@ -35,6 +35,30 @@ static void path(const uint8_t *der, size_t length, uint32_t kind, rtv_bytes win
     text("path", status, room, written, sizeof room);
 }
 
+/* What is told of an object beside its fields. */
+static void findings(const uint8_t *der, size_t length, uint32_t kind) {
+    rtv_lenient_use uses[ROOM];
+    rtv_refused_value values[ROOM];
+    uint8_t room[32];
+    size_t used = 0, refused = 0;
+    rtv_init_lenient_uses(uses, ROOM);
+    rtv_init_refused_values(values, ROOM);
+    if (rtv_leniencies(der, length, kind, uses, ROOM, &used) != RTV_OK) return;
+    number("leniencies", used);
+    for (size_t k = 0; k < used && k < ROOM; k++) {
+        number("at", uses[k].at);
+        text("rule", RTV_OK, room, rtv_rule_word(uses[k].rule, room, sizeof room), sizeof room);
+    }
+    if (rtv_refused_values(der, length, kind, values, ROOM, &refused) != RTV_OK) return;
+    number("refused_values", refused);
+    for (size_t k = 0; k < refused && k < ROOM; k++) {
+        number("at", values[k].at);
+        number("value_at", values[k].value_at);
+        number("value_length", values[k].value_length);
+        number("status", values[k].status);
+    }
+}
+
 static bool told(const char *what, rtv_status status, size_t at) {
     uint8_t words[64];
     if (status == RTV_OK) return printf("%s\n", what) > 0;
@@ -381,6 +405,7 @@ static void certificate(const uint8_t *der, size_t length) {
     oid("signature_algorithm", it.signature_algorithm);
     number("signature_kind", rtv_signature_kind(it.signature_algorithm.at, it.signature_algorithm.length));
     octets("signature", it.signature);
+    findings(der, length, RTV_A_CERTIFICATE);
     time_of("not_before", it.not_before);
     time_of("not_after", it.not_after);
     number("version", it.version);
@@ -477,6 +502,7 @@ static void list(const uint8_t *der, size_t length) {
     oid("signature_algorithm", it.signature_algorithm);
     number("signature_kind", rtv_signature_kind(it.signature_algorithm.at, it.signature_algorithm.length));
     octets("signature", it.signature);
+    findings(der, length, RTV_A_LIST);
     time_of("this_update", it.this_update);
     number("has_next_update", it.has_next_update);
     time_of("next_update", it.next_update);
@@ -517,6 +543,7 @@ static void request(const uint8_t *der, size_t length) {
     oid("signature_algorithm", it.signature_algorithm);
     number("signature_kind", rtv_signature_kind(it.signature_algorithm.at, it.signature_algorithm.length));
     octets("signature", it.signature);
+    findings(der, length, RTV_A_REQUEST);
     number("version", it.version);
     rtv_bytes fields[] = { it.signed_part, it.subject, it.key_info, it.key_bits, it.signature_algorithm, it.signature };
     for (size_t k = 0; k < sizeof fields / sizeof *fields; k++) path(der, length, RTV_A_REQUEST, fields[k]);
@@ -553,11 +580,21 @@ static void alone(void) {
         { "an IA5String and more", 8, "\x16\x04" "abcdEF" },
         { "a point relative to the issuer's", 17, { 0x30, 0x0f, 0xa0, 0x0d, 0xa1, 0x0b, 0x31, 0x09, 0x30, 0x07, 0x06, 0x03, 0x55, 0x04, 0x03, 0x0c, 0x00 } },
     };
+    /* with a serial that has a zero too many, critical by the basic rules, and a key usage that is cut short */
+    static const uint8_t refused[] = {
+        0x30, 0x59, 0x30, 0x4f, 0xa0, 0x03, 0x02, 0x01, 0x02, 0x02, 0x02, 0x00, 0x02, 0x30, 0x03, 0x06, 0x01, 0x2a, 0x30, 0x00, 0x30, 0x1e, 0x17, 0x0d,
+        0x37, 0x30, 0x30, 0x31, 0x30, 0x31, 0x30, 0x30, 0x30, 0x30, 0x30, 0x30, 0x5a, 0x17, 0x0d, 0x34, 0x39, 0x31, 0x32, 0x33, 0x31, 0x32, 0x33, 0x35,
+        0x39, 0x35, 0x39, 0x5a, 0x30, 0x00, 0x30, 0x08, 0x30, 0x03, 0x06, 0x01, 0x2a, 0x03, 0x01, 0x00, 0xa3, 0x11, 0x30, 0x0f, 0x30, 0x0d, 0x06, 0x03,
+        0x55, 0x1d, 0x0f, 0x01, 0x01, 0x01, 0x04, 0x03, 0x03, 0x02, 0x07, 0x30, 0x03, 0x06, 0x01, 0x2a, 0x03, 0x01, 0x00,
+    };
     for (size_t k = 0; k < sizeof samples / sizeof *samples; k++) {
         buffer = samples[k].octets;
         printf("%s\n", samples[k].name);
         value((rtv_bytes){ samples[k].octets, samples[k].length });
     }
+    buffer = refused;
+    printf("a certificate with a value that can't be read\n");
+    findings(refused, sizeof refused, RTV_A_CERTIFICATE);
 }
 
 int main(int count, char **words) {

@@ -585,6 +585,42 @@ static void look_at_path(const uint8_t *der, size_t length, uint32_t kind, size_
     tell("path", RTV_OK, whole, octet);
 }
 
+/* The lenient rules and the refused values of an object: none of the first where a strict reader takes it, and one at least where that alone
+ * refuses it; another room changes nothing but how many rows are written. */
+static void look_at_findings(const uint8_t *der, size_t length, uint32_t kind, const bool taken[2]) {
+    const size_t before = (size_t)MARK << 40, none = SIZE_MAX / 0xff * MARK; /* every octet a MARK */
+    rtv_lenient_use uses[ALL], fewer[ALL];
+    rtv_refused_value values[ALL], few[ALL];
+    size_t used = before, again = before, refused = before;
+    uint8_t text[32];
+    memset(uses, MARK, sizeof uses), memset(fewer, MARK, sizeof fewer);
+    memset(values, MARK, sizeof values), memset(few, MARK, sizeof few);
+    must(rtv_leniencies(der, length, kind, uses, ROOM, &used) == RTV_OK && rtv_leniencies(der, length, kind, fewer, 1, &again) == RTV_OK, "rules",
+         "another status");
+    must(used == again && (!taken[0] || (used == 0) == taken[1]), "rules", "rules of what is strict, or none of what isn't");
+    for (size_t k = 0; k < ALL; k++) {
+        bool there = k < used && k < ROOM;
+        must(there == (uses[k].at != none), "rules", "a row too many, or too few");
+        if (!there) continue;
+        must(uses[k].at <= length && rtv_rule_word(uses[k].rule, text, sizeof text) < sizeof text, "rules", "a rule that is none");
+        must(strcmp((char *)text, "unknown") != 0, "rules", "a rule without a name");
+        must((fewer[k].at == none) == (k > 0) && (k > 0 || fewer[k].at == uses[k].at), "rules", "another row with another room");
+        tell("rules", RTV_OK, uses[k].rule, k);
+    }
+    must(rtv_refused_values(der, length, kind, values, ROOM, &refused) == RTV_OK && rtv_refused_values(der, length, kind, few, 1, &again) == RTV_OK,
+         "refused values", "another status");
+    must(refused == again, "refused values", "another count with another room");
+    for (size_t k = 0; k < ALL; k++) {
+        bool there = k < refused && k < ROOM;
+        must(there == (values[k].at != none), "refused values", "a row too many, or too few");
+        if (!there) continue;
+        must(values[k].value_at <= values[k].at && values[k].at <= values[k].value_at + values[k].value_length, "refused values", "an octet outside");
+        must(values[k].value_at + values[k].value_length <= length, "refused values", "a value outside");
+        must((few[k].at == none) == (k > 0) && (k > 0 || few[k].at == values[k].at), "refused values", "another row with another room");
+        look_at_status("refused values", values[k].status, values[k].at, before, length);
+    }
+}
+
 /* The line of each kind: written where a reader takes the object, in its way, and else it says why none does. */
 static void look_at_reports(const uint8_t *der, size_t length, bool taken[3][2]) {
     static uint8_t line[MOST], less[256];
@@ -646,6 +682,7 @@ int LLVMFuzzerTestOneInput(const uint8_t *data, size_t length) {
             texts(row.oid.at, row.oid.length);
             look_at_value(row.value.at, row.value.length);
         }
+    for (uint32_t kind = RTV_A_CERTIFICATE; kind <= RTV_A_REQUEST; kind++) look_at_findings(der, length, kind, taken[kind - 1]);
     look_at_reports(der, length, taken);
     look_at_value(der, length);
     return 0;

@@ -537,6 +537,46 @@ rtv_status rtv_json(const uint8_t *der, size_t length, uint32_t kind, bool stric
  * name the alternative stands behind: "subjectAltName[0].dNSName". The text is empty where the octet lies in no member of the object. */
 rtv_status rtv_field_path(const uint8_t *der, size_t length, uint32_t kind, size_t octet, uint8_t *text, size_t room, size_t *text_length);
 
+/* ---- what a strict reading would refuse, and values that can't be read */
+
+/* A lenient rule by which an object is taken, as docs/GRAMMAR.md names them. */
+typedef struct rtv_lenient_use {
+    size_t at;     /* the octet of the object at which it is used */
+    uint32_t rule; /* RTV_RULE_..: rtv_rule_word() */
+} rtv_lenient_use;
+
+enum {
+    RTV_RULE_BYTES_BEHIND = 1,         /* octets behind the fields of a structure, or behind the value in an extension */
+    RTV_RULE_WRAPPER_BY_NUMBER = 2,    /* extensions or attributes in a wrapper that has only the number of one */
+    RTV_RULE_ANY_SERIAL = 3,           /* a serial that is no INTEGER of DER */
+    RTV_RULE_BASIC_TRUTH = 4,          /* critical by the basic rules */
+    RTV_RULE_UNREADABLE_FIELD = 5,     /* a field that may be absent and can't be read */
+    RTV_RULE_ATTRIBUTE_BY_NUMBERS = 6, /* a request's attribute, or its values, by their numbers alone */
+    RTV_RULE_CHOICE_BY_NUMBER = 7,     /* the name of a distribution point by its number alone */
+    RTV_RULE_UNREADABLE_NAME = 8,      /* a general name that can't be read */
+    RTV_RULE_TIMESTAMPS_BEHIND = 9,    /* octets behind the timestamps that can be read */
+    RTV_RULE_INSIDE = 10               /* one of these in the element, at an octet that isn't told */
+};
+
+/* The lenient rules that the object at the front of the buffer uses, in order: none where a strict reading takes it, and one at least where
+ * that alone refuses it. kind: RTV_A_CERTIFICATE, RTV_A_LIST or RTV_A_REQUEST; RTV_NOT_FOUND for another. */
+rtv_status rtv_leniencies(const uint8_t *der, size_t length, uint32_t kind, rtv_lenient_use *uses, size_t room, size_t *count);
+
+/* The name of a rule, as "any_serial"; "unknown" where none has the number. Returns its length. */
+size_t rtv_rule_word(uint32_t rule, uint8_t *text, size_t room);
+
+/* A value of an extension that can't be read. */
+typedef struct rtv_refused_value {
+    size_t at;           /* the octet of the object at which it is refused */
+    size_t value_at;     /* the first octet of the value in the object, and how many it has: what an extension's window shows */
+    size_t value_length;
+    rtv_status status;   /* why: RTV_DER_TAG ..; rtv_word() */
+} rtv_refused_value;
+
+/* The values of extensions that can't be read, of the object at the front of the buffer, in order: of a list those of its entries too, of a
+ * request those of the extensions that it asks for. An object is read in spite of them. kind: as in rtv_leniencies(). */
+rtv_status rtv_refused_values(const uint8_t *der, size_t length, uint32_t kind, rtv_refused_value *values, size_t room, size_t *count);
+
 /* ---- rows that hold some valid value */
 
 static inline void rtv_init_bytes(rtv_bytes *rows, size_t count) {
@@ -611,6 +651,16 @@ static inline void rtv_init_point_names(rtv_point_name *rows, size_t count) {
 
 static inline void rtv_init_timestamps(rtv_timestamp *rows, size_t count) {
     static const rtv_timestamp none = { RTV_NO_BYTES, RTV_NO_BYTES, RTV_NO_BYTES, 0, 0, 0, 0 };
+    for (size_t k = 0; k < count; k++) rows[k] = none;
+}
+
+static inline void rtv_init_lenient_uses(rtv_lenient_use *rows, size_t count) {
+    static const rtv_lenient_use none = { 0, 0 };
+    for (size_t k = 0; k < count; k++) rows[k] = none;
+}
+
+static inline void rtv_init_refused_values(rtv_refused_value *rows, size_t count) {
+    static const rtv_refused_value none = { 0, 0, 0, 0 };
     for (size_t k = 0; k < count; k++) rows[k] = none;
 }
 

@@ -5,6 +5,7 @@ pub mod Entries
 pub mod EntryExtensions
 pub mod Extensions
 pub mod FieldPaths
+pub mod Findings
 pub mod Flags
 pub mod GeneralNames
 pub mod Index

@@ -9,7 +9,7 @@ use std::alloc::Global;
 use x509_paths::{Part, path_to};
 
 /// What an object is, by its kind's number: 1 a certificate, 2 a list, 3 a request.
-fn object_by(kind: u32) -> Option<Part>
+pub(crate) fn object_by(kind: u32) -> Option<Part>
     ensures { result ≡ object_by kind }
 {
     match kind {

@@ -12,6 +12,7 @@ mod entries;
 mod entry_extensions;
 mod extensions;
 mod field_path;
+mod findings;
 mod general_names;
 mod index;
 mod issuing_point;

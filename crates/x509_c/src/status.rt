@@ -81,7 +81,7 @@ fn x509_status(error: X509Error) -> u32
 }
 
 /// The number of a refusal.
-fn status_of(refusal: Err<X509Error>) -> u32
+pub(crate) fn status_of(refusal: Err<X509Error>) -> u32
     ensures { result ≡ status_of refusal }
 {
     match refusal {

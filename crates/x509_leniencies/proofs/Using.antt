@@ -13,7 +13,7 @@ use Rattle.x509_leniencies.specs.declared.judged.Judged.{Judged}
 use Rattle.x509_leniencies.specs.declared.judged.Judged.TheVariants.{Absent, Plain, Lenient, Unjudged}
 use Rattle.x509_leniencies.specs.Judgements.{Around, is_absent, is_leaf, judged}
 use Rattle.x509_leniencies.specs.declared.leniency.Leniency.TheVariants.{BytesBehind}
-use Rattle.x509_leniencies.specs.Uses.{Look, Use, behind_of, contents_of, inside, inside_seen, is_wrapper, member_judged, member_seen, member_stepped, members, one_use, own_rule, own_uses, rule_of, told, unread_rule}
+use Rattle.x509_leniencies.specs.Uses.{Look, Use, behind_of, contents_of, inside, inside_seen, is_wrapper, member_judged, member_seen, member_stepped, members, one_use, own_rule, uses_by, rule_of, told, unread_rule}
 
 -- what is looked at in an element that may be so deep
 abbrev pub within : ℕ → Part → Look
@@ -28,7 +28,7 @@ unfolding inside
 inside_unseen n part at place is = ap (inside_seen (within n part) part at place) (sym is)
 
 pub inside_seen_so : (n : ℕ) (part : Part) (at : ℕ) (place : List ℕ) (s : Seen) → Some s ≡ seen place
-    → inside (suc n) part at place ≡ own_uses (own_rule part place s) at ++ members (within n part) (length (contents_of part place s)) (first_of part) (record { part = part; octets = place }) (at + s.size) (contents_of part place s)
+    → inside (suc n) part at place ≡ uses_by (own_rule part place s) at ++ members (within n part) (length (contents_of part place s)) (first_of part) (record { part = part; octets = place }) (at + s.size) (contents_of part place s)
 unfolding inside
 inside_seen_so n part at place s is = ap (inside_seen (within n part) part at place) (sym is)
 
@@ -66,7 +66,7 @@ judgement look n standing around at place s step j some is goes told =
 
 pub member_absent : (look : Look) (n : ℕ) (standing : Standing) (around : Around) (at : ℕ) (place : List ℕ) (s : Seen) (step : Step) (j : Judged) → 0 < length place → Some s ≡ seen place
     → step ≡ stepped standing s.header s.contents → j ≡ judged step.0 around place → j ≡ Absent
-    → members look (suc n) standing around at place ≡ one_use (unread_rule step.0) at
+    → members look (suc n) standing around at place ≡ uses_by (unread_rule step.0) at
 member_absent look n standing around at place s step j some is goes told absent =
     judgement look n standing around at place s step Absent some is goes (sym absent ∙ told)
 
@@ -87,10 +87,10 @@ member_there look n standing around at place s step j some is goes told stands =
 
 -- so contents and fields begin
 pub begun : (n : ℕ) (part : Part) (at : ℕ) (place : List ℕ) (s : Seen) (contents : List ℕ) (standing : Standing) (m : ℕ) → Some s ≡ seen place → contents ≡ contents_of part place s → standing ≡ first_of part → m ≡ length contents
-    → inside (suc n) part at place ≡ own_uses (own_rule part place s) at ++ members (within n part) m standing (record { part = part; octets = place }) (at + s.size) contents
+    → inside (suc n) part at place ≡ uses_by (own_rule part place s) at ++ members (within n part) m standing (record { part = part; octets = place }) (at + s.size) contents
 begun n part at place s contents standing m is holds stands all =
     inside_seen_so n part at place s is
-    ∙ ap (λ more. own_uses (own_rule part place s) at ++ more)
+    ∙ ap (λ more. uses_by (own_rule part place s) at ++ more)
     (ap (λ octets. members (within n part) (length octets) (first_of part) (record { part = part; octets = place }) (at + s.size) octets) (sym holds)
     ∙ ap (λ first. members (within n part) (length contents) first (record { part = part; octets = place }) (at + s.size) contents) (sym stands)
     ∙ ap (λ k. members (within n part) k standing (record { part = part; octets = place }) (at + s.size) contents) (sym all))

@@ -1,5 +1,5 @@
 -- How a part stands at the front of some octets: as the marks of its grammar say.
-use Rattle.std.specs.Prelude.{ℕ, List, codes, Bool, true, false, Ok, Err, if◌then◌else◌}
+use Rattle.std.specs.Prelude.{ℕ, ◌==◌, ◌&&◌, not, List, codes, Bool, true, false, Option, Some, None, Ok, Err, if◌then◌else◌}
 use Rattle.std.specs.Str.{bytes_eq}
 use Rattle.x509_der.specs.declared.error.Err.{Err as Refusal}
 use Rattle.x509_der.specs.Plan.{Plan, Outcome}
@@ -116,6 +116,8 @@ part_judged parts.RequestInfo around place = judged_by request_info place
 part_judged parts.Attribute around place = judged_by request_attribute place
 part_judged parts.TaggedExtensions around place = Unjudged
 part_judged parts.Attributes around place = Unjudged
+part_judged parts.FullName around place = Unjudged
+part_judged parts.RelativeToIssuer around place = Unjudged
 part_judged parts.Values around place = opened (judged_by any place)
 part_judged parts.Unknown around place = Absent
 part_judged parts.Unread around place = Absent
@@ -129,10 +131,26 @@ pub record Around : Type 0 where
 -- a member that is a GeneralName (RFC 5280, 4.2.1.6), whatever its number: one of GeneralNames, a subtree's base (4.2.1.10), and where an
 -- access leads (4.2.2.1)
 abbrev pub is_name : Part → List ℕ → Bool
-is_name parts.GeneralNames name = true
-is_name parts.Subtree name = bytes_eq name (codes "base")
-is_name parts.Access name = bytes_eq name (codes "accessLocation")
-is_name _ name = false
+is_name parts.GeneralNames _ = true
+is_name parts.FullName _ = true
+is_name parts.Subtree field = bytes_eq field (codes "base")
+is_name parts.Access field = bytes_eq field (codes "accessLocation")
+is_name _ _ = false
+
+-- of the values of these attributes their readers take the first: another is none of theirs
+abbrev pub holds_one : Part → Bool
+holds_one parts.Passwords = true
+holds_one parts.RequestedExtensions = true
+holds_one _ = false
+
+abbrev pub is_first : Option ℕ → Bool
+is_first (Some number) = number == 0
+is_first None = true
+
+abbrev pub is_another : Part → Option ℕ → Bool
+is_another part number = holds_one part && not (is_first number)
 
 abbrev pub judged : Called → Around → List ℕ → Judged
-judged c around place = if is_name around.part c.name then judged_by general_name place else part_judged c.part around.octets place
+judged c around place =
+    if is_another around.part c.number then Absent else
+    if is_name around.part c.name then judged_by general_name place else part_judged c.part around.octets place

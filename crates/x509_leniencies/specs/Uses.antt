@@ -27,12 +27,19 @@ uses rule at = record { at = at; rule = rule }
 abbrev pub one_use : Leniency → ℕ → List Use
 one_use rule at = uses rule at ∷ []
 
+abbrev pub uses_by : Option Leniency → ℕ → List Use
+uses_by None at = []
+uses_by (Some rule) at = one_use rule at
+
 -- ---- the rules of one element
 
--- the wrappers that close a structure: their readers take all that is left of it, whatever their length says
+-- the wrappers that close a structure, and the alternatives of a point's name: their readers take all that is left of it, whatever their
+-- length says
 abbrev pub is_wrapper : Part → Bool
 is_wrapper parts.TaggedExtensions = true
 is_wrapper parts.Attributes = true
+is_wrapper parts.FullName = true
+is_wrapper parts.RelativeToIssuer = true
 is_wrapper _ = false
 
 -- the octets in which its members stand
@@ -54,8 +61,11 @@ unless false rule = Some rule
 abbrev pub own_rule : Part → List ℕ → Seen → Option Leniency
 own_rule parts.TaggedExtensions place s = unless (closes s.header (length place - s.size)) WrapperByNumber
 own_rule parts.Attributes place s = unless (closes s.header (length place - s.size)) WrapperByNumber
+own_rule parts.FullName place s = unless (closes s.header (length place - s.size)) ChoiceByNumber
+own_rule parts.RelativeToIssuer place s = unless (closes s.header (length place - s.size)) ChoiceByNumber
 own_rule parts.Attribute place s = unless (is_ok (header_at strict place)) AttributeByNumbers
 own_rule parts.Values place s = unless (is_constructed 17 s.header) AttributeByNumbers
+own_rule parts.Passwords place s = unless (is_constructed 17 s.header) AttributeByNumbers
 own_rule parts.RequestedExtensions place s = unless (is_constructed 17 s.header) AttributeByNumbers
 own_rule _ place s = None
 
@@ -93,18 +103,20 @@ Look = Called → Judged → ℕ → List ℕ → List Use
 abbrev pub More : Type 0
 More = Standing → ℕ → List ℕ → List Use
 
--- by which rule a member is passed over that can't be read: one of a list ends it, and so does what is no field; a field is absent then
-abbrev pub unread_by : Option ℕ → Part → Leniency
-unread_by (Some number) part = BytesBehind
-unread_by None parts.Unknown = BytesBehind
-unread_by None parts.Unread = BytesBehind
-unread_by None _ = UnreadableField
+-- By which rule a member is passed over that can't be read: one of a list ends it, and so does what is no field; a field is absent then.
+-- Of a general name that is a Name the whole can't be read, and is told itself.
+abbrev pub unread_by : Option ℕ → Part → Option Leniency
+unread_by (Some number) part = Some BytesBehind
+unread_by None parts.Unknown = Some BytesBehind
+unread_by None parts.Unread = Some BytesBehind
+unread_by None parts.Name = None
+unread_by None _ = Some UnreadableField
 
-abbrev pub unread_rule : Called → Leniency
+abbrev pub unread_rule : Called → Option Leniency
 unread_rule c = unread_by c.number c.part
 
 abbrev pub member_judged : Look → More → Step → ℕ → List ℕ → Seen → Judged → List Use
-member_judged look more step at place s Absent = one_use (unread_rule step.0) at
+member_judged look more step at place s Absent = uses_by (unread_rule step.0) at
 member_judged look more step at place s j = look step.0 j at place ++ more step.1 (at + size_of s) (behind_of step.0.part s)
 
 abbrev pub member_stepped : Look → More → Around → ℕ → List ℕ → Seen → Step → List Use
@@ -122,15 +134,11 @@ members look (suc n) standing around at (b ∷ bs) = member_seen look (λ next. 
 
 -- ---- an element
 
-abbrev pub own_uses : Option Leniency → ℕ → List Use
-own_uses None at = []
-own_uses (Some rule) at = one_use rule at
-
 abbrev pub inside_seen : Look → Part → ℕ → List ℕ → Option Seen → List Use
 inside_seen look part at place None = []
 inside_seen look part at place (Some s) =
     let contents = contents_of part place s in
-    own_uses (own_rule part place s) at ++ members look (length contents) (first_of part) (record { part = part; octets = place }) (at + s.size) contents
+    uses_by (own_rule part place s) at ++ members look (length contents) (first_of part) (record { part = part; octets = place }) (at + s.size) contents
 
 -- the rules that are used inside the element at the front of a place, as deep as so many parts stand in one another
 unfoldable pub inside : ℕ → Part → ℕ → List ℕ → List Use

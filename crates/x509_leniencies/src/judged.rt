@@ -1,16 +1,16 @@
 //! How a part stands at the front of some octets.
 
-ghost use Rattle.std.specs.Prelude.{◌≡◌, MatchResult, false, ⊤};
+ghost use Rattle.std.specs.Prelude.{◌≡◌, MatchResult, false, true, ⊤};
 ghost use Rattle.x509_der.specs.Leaves.{any, bool_loose};
 ghost use Rattle.x509_fields.specs.Serial.{serial};
 ghost use Rattle.x509_extensions.specs.Extension.{extension};
-ghost use Rattle.x509_leniencies.specs.Judgements.{is_absent, is_leaf, is_name, opened, judged, judged_by, marked, part_judged, value_judged};
+ghost use Rattle.x509_leniencies.specs.Judgements.{is_absent, is_another, is_leaf, is_name, opened, judged, judged_by, marked, part_judged, value_judged};
 ghost use Rattle.x509_paths.specs.Cursors.{called_of};
 
 use std::alloc::{AllocError, Global};
 use x509_certs::{TbsCertificate, Validity, X509Certificate};
-use x509_der::{BerError, FromDer, Place, ReadError, Reader, Tries, read_any};
-use x509_extensions::{ExtensionSequence, X509Extension, X509ExtensionParser};
+use x509_der::{BerError, FromDer, Place, ReadError, Reader, Tries, Window, read_any};
+use x509_extensions::{ExtensionSequence, X509ExtensionParser};
 use x509_fields::{AlgorithmIdentifier, X509Error, serial_at};
 use x509_general_names::{
     AccessDescription, CRLDistributionPoint, DistributionPointName, GeneralName, GeneralSubtree,
@@ -69,6 +69,21 @@ fn judge_as<'a, E: ReadError, T: FromDer<'a, E> + Drop>(
     }
 }
 
+/// How an extension stands there. One is read as where the place of a refusal is asked for, and so shares no code with the loop over the
+/// extensions of an object, into which LLVM inlines their envelope where nothing else in a program reads it.
+#[tactic(auto, using(crate::proofs::Judging::not_excused))]
+fn judge_extension(alloc: Global, place: &[u8]) -> Result<Judged, AllocError>
+    ensures { MatchResult result (λ j. j ≡ judged_by (extension true) place.now) (λ _. ⊤) }
+{
+    let mut tries = Tries::new();
+    let front = Place::inside(&mut tries, &Window::counted(place));
+    match X509ExtensionParser::new().read_at(alloc, &mut tries, &front) {
+        Ok((_extension, plain)) => Ok(marked(plain)),
+        Err(refusal) if refusal.why.is_out_of_memory() => Err(AllocError),
+        Err(_) => Ok(Judged::Absent),
+    }
+}
+
 /// How a serial number stands there.
 fn judge_serial(place: &[u8]) -> Judged
     ensures { result ≡ judged_by serial place.now }
@@ -110,15 +125,17 @@ fn judge_any(place: &[u8]) -> Judged
     }
 }
 
-/// How the value stands of the extension that stands there.
+/// How the value stands of the extension that stands there, which is read as above.
 #[tactic(auto, using(crate::proofs::Judging::not_excused))]
 fn judge_value(alloc: Global, place: &[u8]) -> Result<Judged, AllocError>
     ensures { MatchResult result (λ j. j ≡ value_judged ((extension false).read place.now)) (λ _. ⊤) }
 {
     let parser = X509ExtensionParser::new().with_deep_parse_extensions(false);
-    match parser.read(alloc, &mut Tries::new(), place) {
-        Ok((_, extension)) => Ok(marked(extension.has_plain_value(alloc)?)),
-        Err(refusal) if refusal.is_out_of_memory() => Err(AllocError),
+    let mut tries = Tries::new();
+    let front = Place::inside(&mut tries, &Window::counted(place));
+    match parser.read_at(alloc, &mut tries, &front) {
+        Ok((extension, _)) => Ok(marked(extension.has_plain_value(alloc)?)),
+        Err(refusal) if refusal.why.is_out_of_memory() => Err(AllocError),
         Err(_) => Ok(Judged::Absent),
     }
 }
@@ -170,7 +187,7 @@ pub(crate) fn judge_part(
         Part::Validity => judge_as::<X509Error, Validity>(alloc, place),
         Part::KeyInfo => judge_as::<X509Error, SubjectPublicKeyInfo<'_>>(alloc, place),
         Part::Extensions => judge_as::<X509Error, ExtensionSequence<'_>>(alloc, place),
-        Part::Extension => judge_as::<X509Error, X509Extension<'_>>(alloc, place),
+        Part::Extension => judge_extension(alloc, place),
         Part::Critical => Ok(judge_boolean(place)),
         Part::Value(_) => judge_value(alloc, around),
         Part::Policy => judge_as::<BerError, PolicyInformation<'_>>(alloc, place),
@@ -189,7 +206,9 @@ pub(crate) fn judge_part(
         Part::Request => judge_as::<X509Error, X509CertificationRequest<'_>>(alloc, place),
         Part::RequestInfo => judge_as::<X509Error, X509CertificationRequestInfo<'_>>(alloc, place),
         Part::Attribute => judge_as::<X509Error, X509CriAttribute<'_>>(alloc, place),
-        Part::TaggedExtensions | Part::Attributes => Ok(Judged::Unjudged),
+        Part::TaggedExtensions | Part::Attributes | Part::FullName | Part::RelativeToIssuer => Ok(
+            Judged::Unjudged,
+        ),
         Part::Values => Ok(opened(judge_any(place))),
         Part::Unknown | Part::Unread => Ok(Judged::Absent),
         _ if is_leaf(part) => Ok(judge_any(place)),
@@ -202,9 +221,19 @@ pub(crate) fn is_name(around: Part, name: &str) -> bool
     ensures { result ≡ is_name around name.now }
 {
     match around {
-        Part::GeneralNames => true,
+        Part::GeneralNames | Part::FullName => true,
         Part::Subtree => name == "base",
         Part::Access => name == "accessLocation",
+        _ => false,
+    }
+}
+
+/// Whether a member with this number is none of such a part, whose reader takes the first one.
+fn is_another(part: Part, number: Option<usize>) -> bool
+    ensures { result ≡ is_another part number }
+{
+    match (part, number) {
+        (Part::Passwords | Part::RequestedExtensions, Some(number)) => number != 0,
         _ => false,
     }
 }
@@ -219,7 +248,9 @@ pub(crate) fn judge(
 ) -> Result<Judged, AllocError>
     ensures { MatchResult result (λ j. j ≡ judged (called_of called.now) (record { part = part; octets = around.now }) place.now) (λ _. ⊤) }
 {
-    if is_name(part, called.name) {
+    if is_another(part, called.number) {
+        Ok(Judged::Absent)
+    } else if is_name(part, called.name) {
         judge_as::<X509Error, GeneralName<'_>>(alloc, place)
     } else {
         judge_part(alloc, called.part, around, place)

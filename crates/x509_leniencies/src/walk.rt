@@ -5,22 +5,43 @@ ghost use Rattle.x509_paths.specs.Cursors.{called_of};
 ghost use Rattle.x509_paths.specs.Seen.{seen_of};
 ghost use Rattle.x509_leniencies.specs.Judgements.{part_judged};
 ghost use Rattle.x509_leniencies.specs.declared.judged.Judged.TheVariants.{Lenient, Plain};
-ghost use Rattle.x509_leniencies.specs.Uses.{behind_of, contents_of, deepest, inside, is_wrapper, leniencies, one_use, own_rule, own_uses, part_rule, rule_of, told, unread_rule};
+ghost use Rattle.x509_leniencies.specs.Uses.{behind_of, closes, contents_of, deepest, inside, is_wrapper, leniencies};
+ghost use Rattle.x509_leniencies.specs.Uses.{one_use, own_rule, uses_by, part_rule, rule_of, told, unless, unread_rule};
 
 use crate::judged::{Judged, is_absent, is_leaf, is_name, judge, judge_part};
 use crate::leniency::{Leniency, LenientUse};
 use std::alloc::{AllocError, Global};
-use x509_der::{Class, Tries, read_header};
+use x509_der::{Class, Header, Tries, read_header};
 use x509_paths::{Called, Cursor, ExtensionValue, Part, Seen, see};
 
 /// How many parts of an object stand in one another at most.
 const DEEPEST: usize = 32;
 
-/// Whether a part is a wrapper whose reader takes all octets that are left of its structure, whatever its length says.
+/// Whether a part is a wrapper, or an alternative of a point's name, whose reader takes all octets that are left of its structure, whatever
+/// its length says.
 fn is_wrapper(part: Part) -> bool
     ensures { result ≡ is_wrapper part }
 {
-    matches!(part, Part::TaggedExtensions | Part::Attributes)
+    matches!(
+        part,
+        Part::TaggedExtensions | Part::Attributes | Part::FullName | Part::RelativeToIssuer
+    )
+}
+
+/// Whether this is the header of a constructed element of context class that ends with these octets.
+fn closes(header: &Header, left: usize) -> bool
+    ensures { result ≡ closes header.now left }
+{
+    matches!(header.class, Class::ContextSpecific)
+        && header.constructed
+        && left == header.length as usize
+}
+
+/// This rule, unless the element stands plainly.
+fn unless(plain: bool, rule: Leniency) -> Option<Leniency>
+    ensures { result ≡ unless plain rule }
+{
+    if plain { None } else { Some(rule) }
 }
 
 /// The octets in which the members of a part stand.
@@ -51,32 +72,23 @@ fn own_rule(part: Part, place: &[u8], seen: &Seen<'_>) -> Option<Leniency>
 {
     let header = &seen.header;
     match part {
-        Part::TaggedExtensions | Part::Attributes => {
-            if matches!(header.class, Class::ContextSpecific)
+        Part::TaggedExtensions | Part::Attributes => unless(
+            closes(header, place.len() - seen.size),
+            Leniency::WrapperByNumber,
+        ),
+        Part::FullName | Part::RelativeToIssuer => unless(
+            closes(header, place.len() - seen.size),
+            Leniency::ChoiceByNumber,
+        ),
+        Part::Attribute => unless(
+            read_header(&mut Tries::new(), place).is_ok(),
+            Leniency::AttributeByNumbers,
+        ),
+        Part::Values | Part::Passwords | Part::RequestedExtensions => {
+            let is_set = matches!(header.class, Class::Universal)
                 && header.constructed
-                && place.len() - seen.size == header.length as usize
-            {
-                None
-            } else {
-                Some(Leniency::WrapperByNumber)
-            }
-        }
-        Part::Attribute => {
-            if read_header(&mut Tries::new(), place).is_ok() {
-                None
-            } else {
-                Some(Leniency::AttributeByNumbers)
-            }
-        }
-        Part::Values | Part::RequestedExtensions => {
-            if matches!(header.class, Class::Universal)
-                && header.constructed
-                && header.tag.0 == 17
-            {
-                None
-            } else {
-                Some(Leniency::AttributeByNumbers)
-            }
+                && header.tag.0 == 17;
+            unless(is_set, Leniency::AttributeByNumbers)
         }
         _ => None,
     }
@@ -96,13 +108,14 @@ fn part_rule(part: Part) -> Leniency
     }
 }
 
-/// The rule by which a member is passed over that can't be read.
-fn unread_rule(called: &Called) -> Leniency
+/// The rule by which a member is passed over that can't be read; none for a Name, as the general name around it is told.
+fn unread_rule(called: &Called) -> Option<Leniency>
     ensures { result ≡ unread_rule (called_of called.now) }
 {
     match (called.number, called.part) {
-        (Some(_), _) | (None, Part::Unknown | Part::Unread) => Leniency::BytesBehind,
-        (None, _) => Leniency::UnreadableField,
+        (Some(_), _) | (None, Part::Unknown | Part::Unread) => Some(Leniency::BytesBehind),
+        (None, Part::Name) => None,
+        (None, _) => Some(Leniency::UnreadableField),
     }
 }
 
@@ -125,6 +138,16 @@ fn add(uses: &mut Vec<LenientUse>, rule: Leniency, at: usize) -> Result<(), Allo
     Ok(())
 }
 
+/// Puts this rule there, if it is one.
+fn add_by(uses: &mut Vec<LenientUse>, rule: Option<Leniency>, at: usize) -> Result<(), AllocError>
+    ensures { OnOk result (uses.new.items ≡ uses.old.items ++ uses_by rule at) }
+{
+    match rule {
+        Some(rule) => add(uses, rule, at),
+        None => Ok(()),
+    }
+}
+
 /// Puts the rule there by which the element itself is taken as this part, if there is one.
 fn add_own(
     part: Part,
@@ -134,12 +157,9 @@ fn add_own(
     at: usize,
 ) -> Result<(), AllocError>
     requires { seen.now.size ≤ length place.now }
-    ensures { OnOk result (uses.new.items ≡ uses.old.items ++ own_uses (own_rule part place.now (seen_of seen.now)) at) }
+    ensures { OnOk result (uses.new.items ≡ uses.old.items ++ uses_by (own_rule part place.now (seen_of seen.now)) at) }
 {
-    match own_rule(part, place, seen) {
-        Some(rule) => add(uses, rule, at),
-        None => Ok(()),
-    }
+    add_by(uses, own_rule(part, place, seen), at)
 }
 
 /// Puts the rules behind those found so far that are used inside the element at the front of a place, which is this part and stands behind
@@ -177,7 +197,7 @@ fn look_inside(
         let (called, behind) = cursor.step(&member.header, member.contents);
         let judged = judge(alloc, &called, part, place, left)?;
         if is_absent(judged) {
-            add(uses, unread_rule(&called), next)?;
+            add_by(uses, unread_rule(&called), next)?;
             return Ok(());
         }
         let rule = rule_of(part, &called);

@@ -13,7 +13,7 @@ use Rattle.x509_paths.specs.Fields.{Chosen, Field, behind, chosen, fits, is_each
 use Rattle.x509_paths.specs.Parts.{fields_of, value_field}
 use Rattle.x509_paths.specs.Paths.{Member, deepest, find_member, is_field, lead, member_at, named, path, size_of, where_member, where_seen}
 use Rattle.x509_paths.specs.Seen.{Seen, front_contents, seen}
-use Rattle.x509_paths.specs.Told.{extension_request, rsa_encryption, told_by, user_notice, value_of, value_part}
+use Rattle.x509_paths.specs.Told.{challenge_password, extension_request, rsa_encryption, told_by, user_notice, value_of, value_part}
 
 -- how many members stand in one another in a part, or in what it tells
 abbrev pub deep : Part → ℕ
@@ -45,6 +45,7 @@ deep parts.Attribute = 13
 deep parts.AttributeType = 12
 deep parts.Values = 1
 deep parts.RequestedExtensions = 12
+deep parts.Passwords = 1
 deep parts.GeneralNames = 5
 deep parts.GeneralName = 4
 deep parts.OtherName = 2
@@ -70,6 +71,8 @@ deep parts.Purposes = 1
 deep parts.DistributionPoints = 8
 deep parts.DistributionPoint = 7
 deep parts.DistributionPointName = 6
+deep parts.FullName = 5
+deep parts.RelativeToIssuer = 3
 deep parts.IssuingDistributionPoint = 7
 deep parts.Accesses = 6
 deep parts.Access = 5
@@ -93,7 +96,9 @@ value_below None j h = omega (arith, h)
 told_below : (part : Part) (contents : List ℕ) (before : Part) (j : ℕ) → deep part ≤ j → deep before ≤ j → deep (told_by part contents before) ≤ j
 told_below parts.ExtensionId contents before j h g = value_below (value_of contents) j h
 told_below parts.KeyAlgorithm contents before j h g = either_below (bytes_eq (front_contents contents) rsa_encryption) parts.RsaKeyBits parts.Whole j h (omega (arith, h))
-told_below parts.AttributeType contents before j h g = either_below (bytes_eq contents extension_request) parts.RequestedExtensions parts.Values j h (omega (arith, h))
+told_below parts.AttributeType contents before j h g =
+    either_below (bytes_eq contents extension_request) parts.RequestedExtensions _ j h
+    (either_below (bytes_eq contents challenge_password) parts.Passwords parts.Values j (omega (arith, h)) (omega (arith, h)))
 told_below parts.QualifierId contents before j h g = either_below (bytes_eq contents user_notice) parts.UserNotice parts.Whole j h (omega (arith, h))
 told_below _ contents before j h g = g
 

@@ -25,6 +25,7 @@ fits stands.Always h = true
 fits stands.Each h = true
 fits (stands.Universal n) h = is_universal h.class && h.tag.0 == n
 fits (stands.Context n) h = is_context h.class && h.tag.0 == n
+fits (stands.Number n) h = h.tag.0 == n
 fits stands.Time h = is_universal h.class && (h.tag.0 == 23 || h.tag.0 == 24)
 
 -- a field, and those that may stand behind it

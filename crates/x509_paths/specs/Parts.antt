@@ -1,6 +1,6 @@
 -- The names of fields, in the words of the standards' ASN.1 (RFC 5280, A.1 and A.2; RFC 2986, 4; RFC 8017, A.1.1).
 use Rattle.std.specs.Prelude.{List, [], ◌∷◌, codes}
-use Rattle.x509_paths.specs.declared.field.Stands.TheVariants.{Always, Each, Universal, Context, Time}
+use Rattle.x509_paths.specs.declared.field.Stands.TheVariants.{Always, Each, Universal, Context, Number, Time}
 use Rattle.x509_paths.specs.declared.part.Part.{Part}
 use Rattle.x509_paths.specs.declared.part.Part.TheVariants as parts
 use Rattle.x509_paths.specs.declared.value.ExtensionValue.{ExtensionValue}
@@ -32,7 +32,8 @@ value_field values.TimestampList = field (codes "signedCertificateTimestampList"
 value_field values.NsCertType = field (codes "nsCertType") Always parts.Whole
 value_field values.NsComment = field (codes "nsComment") Always parts.Whole
 
--- what stands in an explicit tag, and the members of a list, have no name of their own
+-- What stands in an explicit tag, and the members of a list, have no name of their own. What wraps extensions, and the alternatives of a
+-- point's name, are taken by their numbers, whatever their class (docs/GRAMMAR.md, "Lenient rules").
 abbrev pub fields_of : Part → List Field
 fields_of parts.Certificate =
     field (codes "tbsCertificate") Always parts.TbsCertificate ∷
@@ -49,7 +50,7 @@ fields_of parts.TbsCertificate =
     field (codes "subjectPublicKeyInfo") Always parts.KeyInfo ∷
     field (codes "issuerUniqueID") (Context 1) parts.Whole ∷
     field (codes "subjectUniqueID") (Context 2) parts.Whole ∷
-    field (codes "extensions") (Context 3) parts.TaggedExtensions ∷
+    field (codes "extensions") (Number 3) parts.TaggedExtensions ∷
     []
 fields_of parts.Tagged = field [] Always parts.Whole ∷ []
 fields_of parts.Algorithm =
@@ -100,7 +101,7 @@ fields_of parts.TbsList =
     field (codes "thisUpdate") Always parts.Whole ∷
     field (codes "nextUpdate") Time parts.Whole ∷
     field (codes "revokedCertificates") (Universal 16) parts.Revoked ∷
-    field (codes "crlExtensions") (Context 0) parts.TaggedExtensions ∷
+    field (codes "crlExtensions") (Number 0) parts.TaggedExtensions ∷
     []
 fields_of parts.Revoked = field [] Each parts.Entry ∷ []
 fields_of parts.Entry =
@@ -130,6 +131,7 @@ fields_of parts.Critical = []
 fields_of parts.Unread = []
 fields_of parts.Values = field [] Each parts.Whole ∷ []
 fields_of parts.RequestedExtensions = field [] Each parts.Extensions ∷ []
+fields_of parts.Passwords = field [] Each parts.Whole ∷ []
 fields_of parts.GeneralNames = field [] Each parts.GeneralName ∷ []
 fields_of parts.GeneralName = []
 fields_of parts.OtherName =
@@ -197,8 +199,14 @@ fields_of parts.DistributionPoint =
     field (codes "cRLIssuer") (Context 2) parts.GeneralNames ∷
     []
 fields_of parts.DistributionPointName =
-    field (codes "fullName") (Context 0) parts.GeneralNames ∷
-    field (codes "nameRelativeToCRLIssuer") (Context 1) parts.RelativeName ∷
+    field (codes "fullName") (Number 0) parts.FullName ∷
+    field (codes "nameRelativeToCRLIssuer") (Number 1) parts.RelativeToIssuer ∷
+    []
+fields_of parts.FullName = field [] Each parts.GeneralName ∷ []
+-- in a SET of its own, as its reader has it, or behind the header of the choice, as the standard's implicit tag has it
+fields_of parts.RelativeToIssuer =
+    field [] (Universal 17) parts.RelativeName ∷
+    field [] Each parts.NameAttribute ∷
     []
 fields_of parts.IssuingDistributionPoint =
     field (codes "distributionPoint") (Context 0) parts.DistributionPointName ∷

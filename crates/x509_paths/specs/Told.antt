@@ -71,6 +71,10 @@ rsa_encryption = 0x2a ∷ 0x86 ∷ 0x48 ∷ 0x86 ∷ 0xf7 ∷ 0x0d ∷ 0x01 ∷ 
 abbrev pub extension_request : List ℕ
 extension_request = 0x2a ∷ 0x86 ∷ 0x48 ∷ 0x86 ∷ 0xf7 ∷ 0x0d ∷ 0x01 ∷ 0x09 ∷ 0x0e ∷ []
 
+-- challengePassword, 1.2.840.113549.1.9.7 (RFC 2985, 5.4.1)
+abbrev pub challenge_password : List ℕ
+challenge_password = 0x2a ∷ 0x86 ∷ 0x48 ∷ 0x86 ∷ 0xf7 ∷ 0x0d ∷ 0x01 ∷ 0x09 ∷ 0x07 ∷ []
+
 -- id-qt-unotice, 1.3.6.1.5.5.7.2.2 (RFC 5280, 4.2.1.4)
 abbrev pub user_notice : List ℕ
 user_notice = 0x2b ∷ 0x06 ∷ 0x01 ∷ 0x05 ∷ 0x05 ∷ 0x07 ∷ 0x02 ∷ 0x02 ∷ []
@@ -81,6 +85,8 @@ user_notice = 0x2b ∷ 0x06 ∷ 0x01 ∷ 0x05 ∷ 0x05 ∷ 0x07 ∷ 0x02 ∷ 0x0
 abbrev pub told_by : Part → List ℕ → Part → Part
 told_by parts.ExtensionId contents before = value_part (value_of contents)
 told_by parts.KeyAlgorithm contents before = if bytes_eq (front_contents contents) rsa_encryption then parts.RsaKeyBits else parts.Whole
-told_by parts.AttributeType contents before = if bytes_eq contents extension_request then parts.RequestedExtensions else parts.Values
+told_by parts.AttributeType contents before =
+    if bytes_eq contents extension_request then parts.RequestedExtensions else
+    if bytes_eq contents challenge_password then parts.Passwords else parts.Values
 told_by parts.QualifierId contents before = if bytes_eq contents user_notice then parts.UserNotice else parts.Whole
 told_by _ contents before = before

@@ -17,6 +17,8 @@ pub enum Stands {
     Universal(u32),
     /// One of context class with this number.
     Context(u32),
+    /// One with this number, whatever its class.
+    Number(u32),
     /// A UTCTime or a GeneralizedTime.
     Time,
 }
@@ -42,6 +44,7 @@ pub(crate) fn fits(stands: Stands, header: &Header) -> bool
         Stands::Context(wanted) => {
             matches!(header.class, Class::ContextSpecific) && number == wanted
         }
+        Stands::Number(wanted) => number == wanted,
         Stands::Time => matches!(header.class, Class::Universal) && (number == 23 || number == 24),
     }
 }

@@ -70,6 +70,8 @@ pub enum Part {
     Values,
     /// The values of an extensionRequest (RFC 2985, section 5.4.2).
     RequestedExtensions,
+    /// The values of a challengePassword (RFC 2985, section 5.4.1).
+    Passwords,
     /// GeneralNames (RFC 5280, section 4.2.1.6).
     GeneralNames,
     /// GeneralName, a choice by the number of the tag (RFC 5280, section 4.2.1.6).
@@ -120,6 +122,10 @@ pub enum Part {
     DistributionPoint,
     /// DistributionPointName in its explicit tag (RFC 5280, section 4.2.1.13).
     DistributionPointName,
+    /// The full name of a distribution point, GeneralNames (RFC 5280, section 4.2.1.13).
+    FullName,
+    /// The name of a distribution point relative to its issuer's, a RelativeDistinguishedName (RFC 5280, section 4.2.1.13).
+    RelativeToIssuer,
     /// IssuingDistributionPoint (RFC 5280, section 5.2.5).
     IssuingDistributionPoint,
     /// AuthorityInfoAccessSyntax and SubjectInfoAccessSyntax (RFC 5280, sections 4.2.2.1 and 4.2.2.2).
@@ -152,7 +158,7 @@ const TBS_CERTIFICATE: [Field; 10] = [
     ("subjectPublicKeyInfo", Stands::Always, Part::KeyInfo),
     ("issuerUniqueID", Stands::Context(1), Part::Whole),
     ("subjectUniqueID", Stands::Context(2), Part::Whole),
-    ("extensions", Stands::Context(3), Part::TaggedExtensions),
+    ("extensions", Stands::Number(3), Part::TaggedExtensions),
 ];
 
 const TAGGED: [Field; 1] = [("", Stands::Always, Part::Whole)];
@@ -211,7 +217,7 @@ const TBS_LIST: [Field; 7] = [
     ("thisUpdate", Stands::Always, Part::Whole),
     ("nextUpdate", Stands::Time, Part::Whole),
     ("revokedCertificates", Stands::Universal(16), Part::Revoked),
-    ("crlExtensions", Stands::Context(0), Part::TaggedExtensions),
+    ("crlExtensions", Stands::Number(0), Part::TaggedExtensions),
 ];
 
 const REVOKED: [Field; 1] = [("", Stands::Each, Part::Entry)];
@@ -349,12 +355,17 @@ const DISTRIBUTION_POINT: [Field; 3] = [
 ];
 
 const DISTRIBUTION_POINT_NAME: [Field; 2] = [
-    ("fullName", Stands::Context(0), Part::GeneralNames),
+    ("fullName", Stands::Number(0), Part::FullName),
     (
         "nameRelativeToCRLIssuer",
-        Stands::Context(1),
-        Part::RelativeName,
+        Stands::Number(1),
+        Part::RelativeToIssuer,
     ),
+];
+
+const RELATIVE_TO_ISSUER: [Field; 2] = [
+    ("", Stands::Universal(17), Part::RelativeName),
+    ("", Stands::Each, Part::NameAttribute),
 ];
 
 const ISSUING_DISTRIBUTION_POINT: [Field; 6] = [
@@ -410,9 +421,9 @@ pub(crate) fn fields(part: Part) -> &'static [Field]
         Part::RequestInfo => &REQUEST_INFO,
         Part::Attributes => &ATTRIBUTES,
         Part::Attribute => &ATTRIBUTE,
-        Part::Values => &VALUES,
+        Part::Values | Part::Passwords => &VALUES,
         Part::RequestedExtensions => &REQUESTED_EXTENSIONS,
-        Part::GeneralNames => &GENERAL_NAMES,
+        Part::GeneralNames | Part::FullName => &GENERAL_NAMES,
         Part::OtherName => &OTHER_NAME,
         Part::TaggedName => &TAGGED_NAME,
         Part::EdiPartyName => &EDI_PARTY_NAME,
@@ -435,6 +446,7 @@ pub(crate) fn fields(part: Part) -> &'static [Field]
         Part::DistributionPoints => &DISTRIBUTION_POINTS,
         Part::DistributionPoint => &DISTRIBUTION_POINT,
         Part::DistributionPointName => &DISTRIBUTION_POINT_NAME,
+        Part::RelativeToIssuer => &RELATIVE_TO_ISSUER,
         Part::IssuingDistributionPoint => &ISSUING_DISTRIBUTION_POINT,
         Part::Accesses => &ACCESSES,
         Part::Access => &ACCESS,

@@ -13,6 +13,9 @@ const RSA_ENCRYPTION: &[u8] = &[0x2a, 0x86, 0x48, 0x86, 0xf7, 0x0d, 0x01, 0x01, 
 /// extensionRequest, 1.2.840.113549.1.9.14 (RFC 2985, section 5.4.2).
 const EXTENSION_REQUEST: &[u8] = &[0x2a, 0x86, 0x48, 0x86, 0xf7, 0x0d, 0x01, 0x09, 0x0e];
 
+/// challengePassword, 1.2.840.113549.1.9.7 (RFC 2985, section 5.4.1).
+const CHALLENGE_PASSWORD: &[u8] = &[0x2a, 0x86, 0x48, 0x86, 0xf7, 0x0d, 0x01, 0x09, 0x07];
+
 /// id-qt-unotice, 1.3.6.1.5.5.7.2.2 (RFC 5280, section 4.2.1.4).
 const USER_NOTICE: &[u8] = &[0x2b, 0x06, 0x01, 0x05, 0x05, 0x07, 0x02, 0x02];
 
@@ -39,6 +42,8 @@ pub(crate) fn told_by(part: Part, contents: &[u8], before: Part) -> Part
         },
         Part::AttributeType => if contents == EXTENSION_REQUEST {
             Part::RequestedExtensions
+        } else if contents == CHALLENGE_PASSWORD {
+            Part::Passwords
         } else {
             Part::Values
         },

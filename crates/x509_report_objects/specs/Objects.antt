@@ -26,7 +26,7 @@ use Rattle.x509_report_objects.specs.Lists.{list_members}
 use Rattle.x509_report_objects.specs.Places.{Found, Wishes, place_members, octets_members}
 use Rattle.x509_leniencies.specs.Uses.{Use}
 use Rattle.x509_report_objects.specs.Leniencies.{first_uses, lenient_members, uses_unless}
-use Rattle.x509_report_objects.specs.RefusedValues.{path_in, refused_members}
+use Rattle.x509_report_objects.specs.RefusedValues.{any_in_list, any_in_request, any_refused, path_in, refused_members}
 use Rattle.x509_report_objects.specs.Requests.{request_members}
 
 -- whether it stands plainly, and how many octets stand behind it
@@ -34,13 +34,13 @@ abbrev pub standing_members : Bool → List ℕ → List (List ℕ × Json)
 standing_members plain rest = (codes "strict", boolean plain) ∷ (codes "behind", count (length rest)) ∷ []
 
 -- the values of its extensions that can't be read, and the lenient rules that it uses
-abbrev pub found_members : Bool → Part → List ℕ → List (List ℕ × Json)
-found_members plain part octets = refused_members part octets ++ lenient_members plain part octets
+abbrev pub found_members : Bool → Bool → Part → List ℕ → List (List ℕ × Json)
+found_members plain refused part octets = refused_members refused part octets ++ lenient_members plain part octets
 
 -- the object's own members, and behind them what was found
-unfoldable pub object_report : List ℕ → Part → Wishes → Found → List ℕ → Bool → List ℕ → List (List ℕ × Json) → Json
-object_report kind part w p octets plain rest members = record_of (
-    place_members kind p ++ octets_members w.fingerprints p octets ++ standing_members plain rest ++ members ++ found_members plain part octets)
+unfoldable pub object_report : List ℕ → Part → Wishes → Found → List ℕ → Bool → Bool → List ℕ → List (List ℕ × Json) → Json
+object_report kind part w p octets plain refused rest members = record_of (
+    place_members kind p ++ octets_members w.fingerprints p octets ++ standing_members plain rest ++ members ++ found_members plain refused part octets)
 
 -- ---- which report stands for an object: that of the first reader that takes it
 
@@ -142,15 +142,15 @@ abbrev pub refused_told : {A : Type 0} → Field A → List ℕ → Refusal X509
 refused_told field octets e = Err (record { why = e; at = refused_at field octets })
 
 abbrev pub certificate_told : Wishes → Found → List ℕ → Outcome (Refusal X509Error) Certificate → Told
-certificate_told w p octets (Ok x) = told_by w ((certificate true).marks octets) (object_report (codes "certificate") parts.Certificate w p octets ((certificate true).marks octets) x.0 (certificate_members w.fingerprints x.1))
+certificate_told w p octets (Ok x) = told_by w ((certificate true).marks octets) (object_report (codes "certificate") parts.Certificate w p octets ((certificate true).marks octets) (any_refused x.1.tbs.extensions) x.0 (certificate_members w.fingerprints x.1))
 certificate_told w p octets (Err e) = refused_told (certificate true) octets e
 
 abbrev pub list_told : Wishes → Found → List ℕ → Outcome (Refusal X509Error) (Signed TbsList) → Told
-list_told w p octets (Ok x) = told_by w (certificate_list.marks octets) (object_report (codes "list") parts.List w p octets (certificate_list.marks octets) x.0 (list_members x.1))
+list_told w p octets (Ok x) = told_by w (certificate_list.marks octets) (object_report (codes "list") parts.List w p octets (certificate_list.marks octets) (any_in_list x.1.tbs) x.0 (list_members x.1))
 list_told w p octets (Err e) = refused_told certificate_list octets e
 
 abbrev pub request_told : Wishes → Found → List ℕ → Outcome (Refusal X509Error) (Signed RequestInfo) → Told
-request_told w p octets (Ok x) = told_by w (certification_request.marks octets) (object_report (codes "request") parts.Request w p octets (certification_request.marks octets) x.0 (request_members w.fingerprints x.1))
+request_told w p octets (Ok x) = told_by w (certification_request.marks octets) (object_report (codes "request") parts.Request w p octets (certification_request.marks octets) (any_in_request x.1.tbs) x.0 (request_members w.fingerprints x.1))
 request_told w p octets (Err e) = refused_told certification_request octets e
 
 -- the reader's report with its kind, or what comes next behind its refusal

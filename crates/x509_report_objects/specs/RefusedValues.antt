@@ -1,6 +1,13 @@
 -- What a report says of the values of an object's extensions that can't be read (RFC 5280, 4.2).
-use Rattle.std.specs.Prelude.{ℕ, List, [], ◌∷◌, ◌++◌, codes, drop, map, take, Option, Some, None}
+use Rattle.std.specs.Prelude.{ℕ, Bool, true, false, List, [], ◌∷◌, ◌++◌, codes, drop, map, take, Option, Some, None, is_some, if◌then◌else◌}
+use Rattle.std.specs.List.{list_any}
 use Rattle.json.specs.Json.{Json, array, string}
+use Rattle.x509_extensions.specs.Extension.{Extension}
+use Rattle.x509_extensions.specs.Parsed.{error_in}
+use Rattle.x509_lists.specs.RevokedCertificate.{Revoked}
+use Rattle.x509_lists.specs.TbsCertList.{TbsList}
+use Rattle.x509_requests.specs.CriAttribute.{Attribute, ParsedAttribute, ExtensionRequest}
+use Rattle.x509_requests.specs.RequestInfo.{RequestInfo}
 use Rattle.x509_der.specs.Words.{refusal_word}
 use Rattle.x509_fields.specs.Errors.{x509_word}
 use Rattle.x509_refused_values.specs.RefusedValues.{refused_values}
@@ -34,5 +41,31 @@ report_with_path part octets v = value_report (path_in part octets v.at) v
 abbrev pub value_reports : Part → List ℕ → List RefusedValue → List Json
 value_reports part octets vs = map (report_with_path part octets) (take 100 vs) ++ map (value_report None) (drop 100 vs)
 
-abbrev pub refused_members : Part → List ℕ → List (List ℕ × Json)
-refused_members part octets = (codes "refused_values", array (items_of (value_reports part octets (refused_values part octets)))) ∷ []
+-- ---- whether an extension of the object has a value that can't be read: else none is looked for
+
+abbrev pub any_refused : List Extension → Bool
+any_refused xs = list_any (λ x. is_some (error_in x.parsed)) xs
+
+-- of a list, its own extensions and those of its entries
+abbrev pub any_in_entries : List Revoked → Bool
+any_in_entries rs = list_any (λ r. any_refused r.extensions) rs
+
+abbrev pub any_in_list : TbsList → Bool
+any_in_list t = if any_refused t.extensions then true else any_in_entries t.revoked_certificates
+
+-- of a request, those that it asks for
+abbrev pub any_asked_for : ParsedAttribute → Bool
+any_asked_for (ExtensionRequest xs) = any_refused xs
+any_asked_for _ = false
+
+abbrev pub any_in_attributes : List Attribute → Bool
+any_in_attributes xs = list_any (λ a. any_asked_for a.parsed) xs
+
+abbrev pub any_in_request : RequestInfo → Bool
+any_in_request i = any_in_attributes i.attributes
+
+abbrev pub values_if : Bool → Part → List ℕ → List RefusedValue
+values_if refused part octets = if refused then refused_values part octets else []
+
+abbrev pub refused_members : Bool → Part → List ℕ → List (List ℕ × Json)
+refused_members refused part octets = (codes "refused_values", array (items_of (value_reports part octets (values_if refused part octets)))) ∷ []

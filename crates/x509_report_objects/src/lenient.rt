@@ -1,12 +1,12 @@
 //! What a report says of the lenient rules that an object uses.
 
-ghost use Rattle.std.specs.Prelude.{◌≡◌, option_map, take, MatchResult, ⊤};
+ghost use Rattle.std.specs.Prelude.{◌≡◌, option_map, MatchResult, ⊤};
 ghost use Rattle.x509_leniencies.specs.Words.{leniency_word};
 ghost use Rattle.x509_report_lines.specs.Says.{Says, SaysEach, SaysUnder};
 ghost use Rattle.x509_report_objects.specs.Leniencies.{first_uses, use_report, use_with_path, uses_unless};
 
 use crate::refused_values::some_text;
-use crate::values::{count_under, optional_text_under, text_under};
+use crate::values::{count_under, first_of, optional_text_under, text_under};
 use std::alloc::{AllocError, Global};
 use x509_leniencies::{LenientUse, leniencies};
 use x509_paths::{Part, path_to};
@@ -55,17 +55,6 @@ fn say_each_with_path(
         say_with_path(alloc, out, part, octets, used)?;
     }
     Ok(())
-}
-
-/// The first rules, so many where there are more.
-fn first_of(uses: &[LenientUse], count: usize) -> &[LenientUse]
-    ensures { result.now ≡ take count uses.now }
-{
-    if count <= uses.len() {
-        &uses[..count]
-    } else {
-        uses
-    }
 }
 
 /// The first of these rules, of the object at the front of the octets, which is such a part, under a key.

@@ -6,7 +6,8 @@ ghost use Rattle.x509_certs.specs.Certificate.{certificate, certificate_of};
 ghost use Rattle.x509_lists.specs.CertificateList.{certificate_list, list_of};
 ghost use Rattle.x509_requests.specs.Request.{certification_request, certification_request_of};
 ghost use Rattle.x509_report_lines.specs.Says.{Says, SaysEach, SaysMembers, SaysUnder, count, items_of, list_of as array_of, optional, written};
-ghost use Rattle.x509_report_objects.specs.Objects.{all_tried, attempt_members, attempt_report, certificate_told, failed_report, found_members, is_strict, list_told, object_told, octet_of};
+ghost use Rattle.x509_report_objects.specs.Objects.{all_tried, attempt_members, attempt_report, certificate_told, failed_report};
+ghost use Rattle.x509_report_objects.specs.Objects.{found_members, is_strict, list_told, object_told, octet_of};
 ghost use Rattle.x509_report_objects.specs.Objects.{object_report, refusal_report, request_told, skipped_report, standing_members, tried_by};
 ghost use Rattle.x509_report_objects.specs.Objects.{tried_report};
 ghost use Rattle.x509_report_objects.specs.Certificates.{certificate_members};
@@ -20,7 +21,7 @@ use crate::certificates::certificate_members;
 use crate::errors::refusal_name;
 use crate::lenient::{leniencies_under, uses_under, uses_unless};
 use crate::lists::list_members;
-use crate::refused_values::{refused_under, some_text};
+use crate::refused_values::{any_in_list, any_in_request, any_refused, refused_under, some_text};
 use crate::requests::request_members;
 use crate::values::{
     count_under, fingerprint_under, null_under, optional_text_under, text_under, truth_under,
@@ -74,12 +75,13 @@ pub enum Kind {
     Request,
 }
 
-/// The octets that were tried, those behind the object, and whether it stands plainly.
+/// The octets that were tried, those behind the object, whether it stands plainly, and whether a value of its extensions is refused.
 #[derive(Clone, Copy)]
 struct Seen<'a> {
     octets: &'a [u8],
     rest: &'a [u8],
     plain: bool,
+    refused: bool,
 }
 
 /// What a reader says of whom only plain objects are wanted, where one isn't.
@@ -153,17 +155,18 @@ fn say_standing(out: &mut Line, plain: bool, rest: &[u8]) -> Result<(), AllocErr
 }
 
 /// The values of its extensions that can't be read, and the lenient rules that it uses.
-fn say_found(
-    alloc: Global,
-    out: &mut Line,
-    plain: bool,
-    part: Part,
-    octets: &[u8],
-) -> Result<(), AllocError>
-    ensures { SaysMembers result out.old out.new (found_members plain part octets.now) }
+fn say_found(alloc: Global, out: &mut Line, part: Part, seen: &Seen<'_>) -> Result<(), AllocError>
+    ensures { SaysMembers result out.old out.new (found_members seen.now.plain seen.now.refused part seen.now.octets.now) }
 {
-    refused_under(alloc, out, "refused_values", part, octets)?;
-    leniencies_under(alloc, out, "leniencies", plain, part, octets)
+    refused_under(
+        alloc,
+        out,
+        "refused_values",
+        seen.refused,
+        part,
+        seen.octets,
+    )?;
+    leniencies_under(alloc, out, "leniencies", seen.plain, part, seen.octets)
 }
 
 /// The report of a certificate.
@@ -177,14 +180,14 @@ fn say_certificate(
     certificate: &X509Certificate<'_>,
 ) -> Result<(), AllocError>
     ensures { Says result out.old out.new (object_report (codes "certificate") Part.Certificate (wishes_of wishes.now) (found_of place.now) seen.now.octets.now
-        seen.now.plain seen.now.rest.now (certificate_members wishes.now.fingerprints (certificate_of certificate.now))) }
+        seen.now.plain seen.now.refused seen.now.rest.now (certificate_members wishes.now.fingerprints (certificate_of certificate.now))) }
 {
     out.begin_object()?;
     say_place(out, "certificate", place)?;
     say_octets(alloc, out, wishes.fingerprints, place, seen.octets)?;
     say_standing(out, seen.plain, seen.rest)?;
     certificate_members(alloc, out, wishes.fingerprints, certificate)?;
-    say_found(alloc, out, seen.plain, Part::Certificate, seen.octets)?;
+    say_found(alloc, out, Part::Certificate, seen)?;
     out.end_object()?;
     Ok(())
 }
@@ -212,6 +215,7 @@ fn try_certificate(
                 octets,
                 rest,
                 plain,
+                refused: any_refused(certificate.extensions()),
             };
             say_certificate(alloc, out, wishes, place, &seen, &certificate)?;
             Ok(Attempt::Taken)
@@ -238,14 +242,14 @@ fn say_list(
     list: &CertificateRevocationList<'_>,
 ) -> Result<(), AllocError>
     ensures { Says result out.old out.new (object_report (codes "list") Part.List (wishes_of wishes.now) (found_of place.now) seen.now.octets.now
-        seen.now.plain seen.now.rest.now (list_members (list_of list.now))) }
+        seen.now.plain seen.now.refused seen.now.rest.now (list_members (list_of list.now))) }
 {
     out.begin_object()?;
     say_place(out, "list", place)?;
     say_octets(alloc, out, wishes.fingerprints, place, seen.octets)?;
     say_standing(out, seen.plain, seen.rest)?;
     list_members(alloc, out, list)?;
-    say_found(alloc, out, seen.plain, Part::List, seen.octets)?;
+    say_found(alloc, out, Part::List, seen)?;
     out.end_object()?;
     Ok(())
 }
@@ -273,6 +277,7 @@ fn try_list(
                 octets,
                 rest,
                 plain,
+                refused: any_in_list(&list),
             };
             say_list(alloc, out, wishes, place, &seen, &list)?;
             Ok(Attempt::Taken)
@@ -299,14 +304,14 @@ fn say_request(
     request: &X509CertificationRequest<'_>,
 ) -> Result<(), AllocError>
     ensures { Says result out.old out.new (object_report (codes "request") Part.Request (wishes_of wishes.now) (found_of place.now) seen.now.octets.now
-        seen.now.plain seen.now.rest.now (request_members wishes.now.fingerprints (certification_request_of request.now))) }
+        seen.now.plain seen.now.refused seen.now.rest.now (request_members wishes.now.fingerprints (certification_request_of request.now))) }
 {
     out.begin_object()?;
     say_place(out, "request", place)?;
     say_octets(alloc, out, wishes.fingerprints, place, seen.octets)?;
     say_standing(out, seen.plain, seen.rest)?;
     request_members(alloc, out, wishes.fingerprints, request)?;
-    say_found(alloc, out, seen.plain, Part::Request, seen.octets)?;
+    say_found(alloc, out, Part::Request, seen)?;
     out.end_object()?;
     Ok(())
 }
@@ -334,6 +339,7 @@ fn try_request(
                 octets,
                 rest,
                 plain,
+                refused: any_in_request(&request),
             };
             say_request(alloc, out, wishes, place, &seen, &request)?;
             Ok(Attempt::Taken)

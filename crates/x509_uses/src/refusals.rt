@@ -4,12 +4,15 @@ ghost use Rattle.std.specs.Prelude.{◌≡◌, ◌↔◌, IfOk, IsTrue, MatchOpt
 ghost use Rattle.x509_der.specs.declared.error.BerError.TheVariants.{InvalidTag};
 ghost use Rattle.x509_der.specs.declared.error.Err.TheVariants as refusals;
 ghost use Rattle.x509_fields.specs.declared.error.X509Error.TheVariants.{Der};
+ghost use Rattle.x509_leniencies.specs.Uses.{leniencies};
+ghost use Rattle.x509_paths.specs.declared.part.Part.TheVariants as parts;
 ghost use Rattle.x509_uses.specs.Conclusions.{IsCertificate, IsFault, IsPathToFault};
-ghost use Rattle.x509_uses.specs.Refusals.{what_next};
+ghost use Rattle.x509_uses.specs.Refusals.{first_use, what_next};
 
 use std::alloc::{AllocError, Global};
 use x509_parser::der::{BerError, Err};
 use x509_parser::error::X509Error;
+use x509_parser::leniencies::{LenientUse, leniencies};
 use x509_parser::parse_x509_certificate_located;
 use x509_parser::paths::{Part, path_to};
 
@@ -64,4 +67,15 @@ pub fn field_at_fault(alloc: Global, input: &[u8]) -> Result<Option<String>, All
     };
     let path = path_to(alloc, Part::Certificate, input, at)?;
     Ok(Some(path))
+}
+
+/// The first lenient rule by which the certificate at the front of the bytes is taken, with its octet: what a strict reader refuses first.
+pub fn first_rule(alloc: Global, input: &[u8]) -> Result<Option<LenientUse>, AllocError>
+    ensures { IfOk result (λ used. used ≡ first_use (leniencies parts.Certificate input.now)) }
+{
+    let uses = leniencies(alloc, Part::Certificate, input)?;
+    match uses.as_slice() {
+        [first, ..] => Ok(Some(*first)),
+        [] => Ok(None),
+    }
 }

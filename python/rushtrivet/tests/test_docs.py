@@ -71,7 +71,7 @@ class Programs(unittest.TestCase):
         self.assertEqual(told.stderr, "")
         first, second = told.stdout.splitlines()
         self.assertEqual(first, "2027-12-24 14:31:06+00:00 www.example.com example.com")
-        self.assertEqual(second, f"{self.bad}: incomplete, octet 0")
+        self.assertEqual(second, f"{self.bad}: incomplete, at octet 0")
 
     @unittest.skipUnless(INVENTORY.is_file(), "the example isn't here")
     def test_inventory(self) -> None:

@@ -19,6 +19,7 @@ FIELDS = {
     "int64_t ": c_int64,
     "uint32_t ": c_uint32,
     "uint64_t ": c_uint64,
+    "rtv_status ": c_uint32,
     "rtv_bytes ": _library.Bytes,
     "rtv_general_name ": _library.GeneralNameRow,
 }

@@ -9,7 +9,15 @@ from . import oid
 from ._library import lib as _lib
 from ._library import version_text as _version_text
 from ._names import Name, NameAttribute, RelativeDistinguishedName
-from ._objects import HashAlgorithm, KeyParameters, PublicKey, RSAPublicNumbers, SignatureKind
+from ._objects import (
+    HashAlgorithm,
+    KeyParameters,
+    LenientRule,
+    PublicKey,
+    RefusedValue,
+    RSAPublicNumbers,
+    SignatureKind,
+)
 from .certificates import Certificate, Messages, Version, load_certificate
 from .errors import AttributeNotFound, DuplicateExtension, ExtensionNotFound, Refused, Status
 from .extensions import Extension, Extensions
@@ -120,6 +128,7 @@ __all__ = [
     "IssuingDistributionPoint",
     "KeyParameters",
     "KeyUsage",
+    "LenientRule",
     "Messages",
     "Name",
     "NameAttribute",
@@ -142,6 +151,7 @@ __all__ = [
     "RSAPublicNumbers",
     "ReasonFlags",
     "Refused",
+    "RefusedValue",
     "RegisteredID",
     "RelativeDistinguishedName",
     "RevokedCertificate",

@@ -304,6 +304,18 @@ class RsaKeyStruct(ctypes.Structure):
     _fields_ = [("modulus", Bytes), ("exponent", Bytes)]
 
 
+class LenientUseRow(ctypes.Structure):
+    """A lenient rule that an object uses."""
+
+    _fields_ = [("at", c_size_t), ("rule", c_uint32)]
+
+
+class RefusedValueRow(ctypes.Structure):
+    """A value of an extension that can't be read."""
+
+    _fields_ = [("at", c_size_t), ("value_at", c_size_t), ("value_length", c_size_t), ("status", c_uint32)]
+
+
 class Number(ctypes.Structure):
     """What calls tell that tell one number: no struct of the header."""
 
@@ -350,6 +362,8 @@ STRUCTS: Dict[str, Type[ctypes.Structure]] = {
     "rtv_issuing_distribution_point": IssuingPointStruct,
     "rtv_key_info": KeyInfoStruct,
     "rtv_rsa_key": RsaKeyStruct,
+    "rtv_lenient_use": LenientUseRow,
+    "rtv_refused_value": RefusedValueRow,
 }
 
 
@@ -455,6 +469,10 @@ CALLS: Dict[str, Tuple[Any, List[Any]]] = {
     "rtv_oid_word": (c_uint32, [*_OCTETS, *_TEXT, *_TEXT]),
     "rtv_validate": (c_uint32, [*_OCTETS, *_TEXT, POINTER(c_uint32), _SIZE]),
     "rtv_json": (c_uint32, [*_OCTETS, c_uint32, c_bool, *_TEXT]),
+    "rtv_field_path": (c_uint32, [*_OCTETS, c_uint32, c_size_t, *_TEXT]),
+    "rtv_leniencies": (c_uint32, [*_OCTETS, c_uint32, POINTER(LenientUseRow), c_size_t, _SIZE]),
+    "rtv_rule_word": (c_size_t, [c_uint32, c_char_p, c_size_t]),
+    "rtv_refused_values": (c_uint32, [*_OCTETS, c_uint32, POINTER(RefusedValueRow), c_size_t, _SIZE]),
 }
 """The type of the result, and those of the arguments. Pointers are handed over as plain addresses."""
 
@@ -749,6 +767,13 @@ def word(status: int) -> str:
     return text.decode("utf-8", "backslashreplace")
 
 
+@lru_cache(maxsize=16)
+def rule_word(rule: int) -> str:
+    """The name of a lenient rule."""
+    text = whole_text(lambda text, room, _: int(lib.rtv_rule_word(rule, text, room)))
+    return text.decode("utf-8", "backslashreplace")
+
+
 def refuse(status: int, at: Optional[int] = None) -> NoReturn:
     """Raises Refused, or MemoryError for want of memory."""
     if status == Status.OUT_OF_MEMORY:
@@ -810,6 +835,25 @@ class Kind(IntEnum):
     CERTIFICATE = 1
     LIST = 2
     REQUEST = 3
+
+
+def field_path(buffer: Buffer, kind: Kind, at: int) -> str:
+    """The names of the fields that lead to an octet of the object at the front of the octets, which is of that kind."""
+
+    def call(text: int, room: int, memory: Memory) -> int:
+        status = lib.rtv_field_path(buffer.address, buffer.length, kind, at, text, room, memory.counts)
+        if status:
+            refuse(status)
+        return memory.count
+
+    return whole_text(call).decode("utf-8", "backslashreplace")
+
+
+def placed(refused: Refused, buffer: Buffer, kind: Kind) -> Refused:
+    """The refusal with the path to its octet: of an object of that kind, which was to stand at their front."""
+    if refused.at is not None:
+        refused.path = field_path(buffer, kind, refused.at)
+    return refused
 
 
 def report(buffer: Buffer, kind: Kind) -> Dict[str, Any]:

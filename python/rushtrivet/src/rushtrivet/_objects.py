@@ -27,18 +27,25 @@ from ._library import (
     Caller,
     KeyInfoStruct,
     Kind,
+    LenientUseRow,
     Numbers,
     Octets,
+    RefusedValueRow,
     RsaKeyStruct,
+    field_path,
     identifier,
     lib,
     octets,
     report,
+    rule_word,
+    word,
 )
 from .oid import ObjectIdentifier, PublicKeyAlgorithmOID
 
 _KEY_INFOS = Caller(KeyInfoStruct)
 _RSA_KEYS = Caller(RsaKeyStruct)
+_RULES = Caller(None, LenientUseRow, 8)
+_REFUSED_VALUES = Caller(None, RefusedValueRow, 8)
 _EPOCH = datetime(1970, 1, 1, tzinfo=timezone.utc)
 
 
@@ -170,6 +177,39 @@ class SignatureKind(IntEnum):
     ED25519 = 6
 
 
+class LenientRule(NamedTuple):
+    """A lenient rule by which an object is taken: `strict=True` refuses it."""
+
+    rule: str
+    """Its name: bytes_behind, wrapper_by_number, any_serial, basic_truth, unreadable_field, attribute_by_numbers,
+    choice_by_number, unreadable_name, timestamps_behind, or inside where its octet isn't told."""
+
+    at: int
+    """The octet of the object at which it is used, from 0."""
+
+    path: str
+    """The names of the fields that lead there, as "tbsCertificate.serialNumber"."""
+
+
+class RefusedValue(NamedTuple):
+    """A value of an extension that can't be read."""
+
+    status: int
+    """Why: a number of Status."""
+
+    word: str
+    """The words of the status, as "invalid length"."""
+
+    at: int
+    """The octet of the object at which it is refused, from 0."""
+
+    path: str
+    """The names of the fields that lead there, as "tbsCertificate.extensions[2].extnValue.basicConstraints"."""
+
+    raw: bytes
+    """The octets of the value."""
+
+
 class SignedObject:
     """Octets that were read, and what was found in them."""
 
@@ -197,6 +237,41 @@ class SignedObject:
     @kept
     def _report(self) -> Dict[str, Any]:
         return report(self._buffer, self._kind)
+
+    def field_path(self, at: int) -> str:
+        """The names of the fields that lead to an octet of the object, as "tbsCertificate.validity.notAfter".
+
+        Empty where it lies in no member of the object.
+        """
+        return field_path(self._buffer, self._kind, at)
+
+    def lenient_rules(self) -> Tuple[LenientRule, ...]:
+        """The lenient rules by which the object is taken, in order: none where `strict=True` takes it too.
+
+        It is read once more for them, and for the path of each from its front.
+        """
+        buffer, kind = self._buffer, self._kind
+        _, rows = _RULES.ask(
+            lambda memory: lib.rtv_leniencies(
+                buffer.address, buffer.length, kind, memory.rows, memory.room, memory.counts
+            )
+        )
+        return tuple(LenientRule(rule_word(rule), at, self.field_path(at)) for at, rule in rows)
+
+    def refused_values(self) -> Tuple[RefusedValue, ...]:
+        """The values of extensions that can't be read, in order: of a list those of its entries too, of a request those
+        that it asks for. It is read once more for them, and for the path of each from its front.
+        """
+        buffer, kind = self._buffer, self._kind
+        _, rows = _REFUSED_VALUES.ask(
+            lambda memory: lib.rtv_refused_values(
+                buffer.address, buffer.length, kind, memory.rows, memory.room, memory.counts
+            )
+        )
+        return tuple(
+            RefusedValue(status, word(status), at, self.field_path(at), buffer.data[first : first + length])
+            for at, first, length, status in rows
+        )
 
     def public_bytes(self) -> bytes:
         """The octets of the object (DER), as they were read, without those behind it."""

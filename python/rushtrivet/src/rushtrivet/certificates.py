@@ -17,11 +17,13 @@ from ._library import (
     Numbers,
     Octets,
     lib,
+    placed,
     refuse,
     whole_text,
 )
 from ._names import Name
 from ._objects import KeyedObject, kept, signed_number, utc
+from .errors import Refused
 from .extensions import Extensions, read_extensions
 from .general_names import dns_names
 from .oid import ExtensionOID
@@ -177,9 +179,12 @@ def load_certificate(data: Octets, *, strict: bool = False) -> Certificate:
     Raises Refused, or MemoryError.
     """
     buffer = Buffer(data)
-    found, extensions = _CERTIFICATES.ask(
-        lambda memory: lib.rtv_read_certificate(
-            buffer.address, buffer.length, strict, strict, memory.head, memory.rows, memory.room, memory.second
+    try:
+        found, extensions = _CERTIFICATES.ask(
+            lambda memory: lib.rtv_read_certificate(
+                buffer.address, buffer.length, strict, strict, memory.head, memory.rows, memory.room, memory.second
+            )
         )
-    )
+    except Refused as refused:
+        raise placed(refused, buffer, Kind.CERTIFICATE)
     return Certificate(buffer, found, extensions)

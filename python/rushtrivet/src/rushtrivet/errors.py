@@ -56,6 +56,10 @@ class Refused(ValueError):
     at: Optional[int]
     """Where the octets are refused: an offset in the octets that were read; None where none is told."""
 
+    path: Optional[str] = None
+    """The names of the fields that lead there, as "tbsCertificate.validity.notAfter", of a certificate, a list or a
+    request that was to be loaded; else None."""
+
     def __init__(self, status: int, word: str, at: Optional[int]) -> None:
         super().__init__(status, word, at)
         self.status = status
@@ -63,7 +67,9 @@ class Refused(ValueError):
         self.at = at
 
     def __str__(self) -> str:
-        return self.word if self.at is None else f"{self.word}, at octet {self.at}"
+        if self.at is None:
+            return self.word
+        return f"{self.word}, at octet {self.at}" + (f" ({self.path})" if self.path else "")
 
 
 class _OfIdentifier(Exception):

@@ -20,11 +20,12 @@ from ._library import (
     Octets,
     RevokedRow,
     lib,
+    placed,
     refuse,
 )
 from ._names import Name
 from ._objects import SignedObject, kept, serial_contents, signed_number, utc
-from .errors import Status
+from .errors import Refused, Status
 from .extensions import Extensions, read_extensions
 from .values import ReasonFlags, reason_of
 
@@ -288,9 +289,20 @@ def load_crl(data: Octets, *, strict: bool = False) -> CertificateRevocationList
     strict: what needs one of the reader's lenient rules is refused too. Raises Refused, or MemoryError.
     """
     buffer = Buffer(data)
-    found, extensions = _LISTS.ask(
-        lambda memory: lib.rtv_read_list(
-            buffer.address, buffer.length, strict, memory.head, memory.head, 0, memory.rows, memory.room, memory.second
+    try:
+        found, extensions = _LISTS.ask(
+            lambda memory: lib.rtv_read_list(
+                buffer.address,
+                buffer.length,
+                strict,
+                memory.head,
+                memory.head,
+                0,
+                memory.rows,
+                memory.room,
+                memory.second,
+            )
         )
-    )
+    except Refused as refused:
+        raise placed(refused, buffer, Kind.LIST)
     return CertificateRevocationList(buffer, found, extensions, strict)

@@ -5,10 +5,21 @@ from __future__ import annotations
 from dataclasses import dataclass
 from typing import Any, Callable, List, Tuple
 
-from ._library import Buffer, Caller, Kind, Numbers, Octets, RequestAttributeRow, RequestStruct, identifier, lib
+from ._library import (
+    Buffer,
+    Caller,
+    Kind,
+    Numbers,
+    Octets,
+    RequestAttributeRow,
+    RequestStruct,
+    identifier,
+    lib,
+    placed,
+)
 from ._names import Name
 from ._objects import Items, KeyedObject, kept
-from .errors import AttributeNotFound
+from .errors import AttributeNotFound, Refused
 from .extensions import Extension, Extensions
 from .oid import ObjectIdentifier
 
@@ -109,9 +120,12 @@ def load_csr(data: Octets, *, strict: bool = False) -> CertificateSigningRequest
     strict: what needs one of the reader's lenient rules is refused too. Raises Refused, or MemoryError.
     """
     buffer = Buffer(data)
-    found, attributes = _REQUESTS.ask(
-        lambda memory: lib.rtv_read_request(
-            buffer.address, buffer.length, strict, memory.head, memory.rows, memory.room, memory.second
+    try:
+        found, attributes = _REQUESTS.ask(
+            lambda memory: lib.rtv_read_request(
+                buffer.address, buffer.length, strict, memory.head, memory.rows, memory.room, memory.second
+            )
         )
-    )
+    except Refused as refused:
+        raise placed(refused, buffer, Kind.REQUEST)
     return CertificateSigningRequest(buffer, found, attributes)

@@ -4,7 +4,7 @@ use Rattle.x509_paths.specs.Cursors.{Step, called_of, standing_of}
 use Rattle.x509_paths.specs.Seen.{seen_of}
 use Rattle.x509_paths.specs.Paths.{size_of}
 use Rattle.x509_leniencies.specs.declared.leniency.Leniency.TheVariants.{BytesBehind}
-use Rattle.x509_leniencies.specs.Uses.{inside, members, one_use, own_rule, own_uses, told, unread_rule}
+use Rattle.x509_leniencies.specs.Uses.{inside, members, one_use, own_rule, uses_by, told, unread_rule}
 use Rattle.x509_leniencies.proofs.Using.{absent_is, begins, begun, behind_fits, contents_fit, counted, ended, goes_on, inside_deepest, inside_unseen, last_added, member_absent, member_there, member_unseen, no_members, no_octets, none_left, nothing_more, present_is, some_octets, within}
 use Rattle.x509_leniencies.proofs.walk.+walking.Goals as goal
 
@@ -27,7 +27,7 @@ look_inside-loop-init t c =
     let s = seen_of c.in-Some.element in
     let left = c.contents_of-left.result.now in
     let more = members (within (c.args.depth - 1) c.args.part) (length left - 0) (standing_of c.of-cursor.result) (record { part = c.args.part; octets = c.args.place.now }) (c.args.at + s.size) left in (
-      begins c.args.uses.now.items c.add_own.new.uses.items (own_uses (own_rule c.args.part c.args.place.now s) c.args.at) more
+      begins c.args.uses.now.items c.add_own.new.uses.items (uses_by (own_rule c.args.part c.args.place.now s) c.args.at) more
           (inside c.args.depth c.args.part c.args.at c.args.place.now) c.in_ok-add_own.ensures
           (ap (λ n. inside n c.args.part c.args.at c.args.place.now) deep
           ∙ begun (c.args.depth - 1) c.args.part c.args.at c.args.place.now s left (standing_of c.of-cursor.result) (length left - 0) c.in-Some.ensures.found c.contents_of-left.ensures c.of-cursor.ensures (omega arith)),
@@ -71,7 +71,7 @@ look_inside-returns-then-is_absent t c =
     let look = within (c.args.depth - 1) c.args.part in
     let left : all - it.counter ≡ suc (all - (it.counter + 1)) = omega (arith, c.loop-test.true) in
     let step : Step = (called_of c.step.result.0, standing_of c.step.result.1) in
-    last_added it.uses.items c.add-then-is_absent.new.uses.items (one_use (unread_rule (called_of c.step.result.0)) it.next) (members look (all - it.counter) (standing_of it.cursor) (record { part = c.args.part; octets = c.args.place.now }) it.next it.left.now) _ (c.in_ok-add-2.ensures ∙ ap (λ rule. it.uses.items ++ one_use rule it.next) c.unread_rule.ensures)
+    last_added it.uses.items c.add_by.new.uses.items (uses_by (unread_rule (called_of c.step.result.0)) it.next) (members look (all - it.counter) (standing_of it.cursor) (record { part = c.args.part; octets = c.args.place.now }) it.next it.left.now) _ (c.in_ok-add_by.ensures ∙ ap (λ rule. it.uses.items ++ uses_by rule it.next) c.unread_rule.ensures)
     (ap (λ n. members look n (standing_of it.cursor) (record { part = c.args.part; octets = c.args.place.now }) it.next it.left.now) left
     ∙ member_absent look (all - (it.counter + 1)) (standing_of it.cursor) (record { part = c.args.part; octets = c.args.place.now }) it.next it.left.now (seen_of c.in-Some-see.member) step c.in_ok-judged.judged
     (some_octets it.left.now c.if-is_empty.ensures) c.in-Some-see.ensures.found c.step.ensures c.in_ok-judged.ensures (absent_is c.in_ok-judged.judged c.if-is_absent.ensures))

@@ -20,7 +20,7 @@ returns c =
     let octets = octets_members c.args.wishes.now.fingerprints (found_of c.args.place.now) seen.octets.now in
     let standing = standing_members seen.plain seen.rest.now in
     let members = list_members (list_of c.args.list.now) in
-    let refused = found_members seen.plain parts.List seen.octets.now in
+    let refused = found_members seen.plain seen.refused parts.List seen.octets.now in
     c.in_ok-end_object.ensures
     ∙ ap (λ ts. ts ++ end_object ∷ []) (c.in_ok-say_found.ensures
     ∙ ap (λ ts. members_said ts refused) (c.in_ok-list_members.ensures
