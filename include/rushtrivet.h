@@ -558,8 +558,8 @@ enum {
     RTV_RULE_INSIDE = 10               /* one of these in the element, at an octet that isn't told */
 };
 
-/* The lenient rules that the object at the front of the buffer uses, in order: none where a strict reading takes it, and one at least where
- * that alone refuses it. kind: RTV_A_CERTIFICATE, RTV_A_LIST or RTV_A_REQUEST; RTV_NOT_FOUND for another. */
+/* The lenient rules that the object at the front of the buffer uses, in order, in the values of extensions too: none where a strict and deep
+ * reading takes it, and one at least where that alone refuses it. kind: RTV_A_CERTIFICATE, RTV_A_LIST or RTV_A_REQUEST; RTV_NOT_FOUND for another. */
 rtv_status rtv_leniencies(const uint8_t *der, size_t length, uint32_t kind, rtv_lenient_use *uses, size_t room, size_t *count);
 
 /* The name of a rule, as "any_serial"; "unknown" where none has the number. Returns its length. */
