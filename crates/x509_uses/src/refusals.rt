@@ -69,7 +69,8 @@ pub fn field_at_fault(alloc: Global, input: &[u8]) -> Result<Option<String>, All
     Ok(Some(path))
 }
 
-/// The first lenient rule by which the certificate at the front of the bytes is taken, with its octet: what a strict reader refuses first.
+/// The first lenient rule by which the certificate at the front of the bytes is taken, with its octet: why a strict reader refuses it. None
+/// where a strict reader takes it too, and where none stands there.
 pub fn first_rule(alloc: Global, input: &[u8]) -> Result<Option<LenientUse>, AllocError>
     ensures { IfOk result (λ used. used ≡ first_use (leniencies parts.Certificate input.now)) }
 {

@@ -3,12 +3,13 @@
 use super::kept;
 use crate::{
     Next, count_revoked, days_left, days_valid, entry_in_octets, entry_of, fault_in,
-    field_at_fault, first_identifier, has_strong_key, hosts, is_another_structure, is_known,
-    is_modest, next_after, outline,
+    field_at_fault, first_identifier, first_rule, has_strong_key, hosts, is_another_structure,
+    is_known, is_modest, next_after, outline,
 };
 use std::test::Fail;
 use x509_parser::certification_request::X509CertificationRequest;
 use x509_parser::der::{FromDer, Stop, Tag, UnsignedBytes};
+use x509_parser::leniencies::{Leniency, LenientUse};
 use x509_parser::objects::oid_registry;
 use x509_parser::{parse_x509_certificate, parse_x509_crl};
 
@@ -20,6 +21,12 @@ const HOSTS: &[u8] = b"\
     \x00\x00\x00\x00\x00\x00\x00\x00\x00\x00\x00\x00\x00\x00\x00\x00\x00\x00\x00\x00\x00\x00\x00\x00\x00\x00\x00\x00\x00\x00\x00\x00\
     \x00\x00\x00\x00\x00\x00\x00\x00\xA3\x29\x30\x27\x30\x25\x06\x03\x55\x1D\x11\x04\x1E\x30\x1C\x82\x09\x61\x2E\x65\x78\x61\x6D\x70\
     \x6C\x65\x87\x04\xC0\x00\x02\x01\x82\x09\x62\x2E\x65\x78\x61\x6D\x70\x6C\x65\x30\x03\x06\x01\x2A\x03\x01\x00";
+
+/// A certificate that is empty wherever it may be, its serial `82 01 01`.
+const LENIENT: &[u8] = b"\
+    \x30\x40\x30\x36\x82\x01\x01\x30\x03\x06\x01\x2A\x30\x00\x30\x1E\x17\x0D\x37\x30\x30\x31\x30\x31\x30\x30\x30\x30\x30\x30\x5A\
+    \x17\x0D\x34\x39\x31\x32\x33\x31\x32\x33\x35\x39\x35\x39\x5A\x30\x00\x30\x08\x30\x03\x06\x01\x2A\x03\x01\x00\x30\x03\x06\x01\x2A\
+    \x03\x01\x00";
 
 /// A list with the serials 7, 161 and 7.
 const LIST: &[u8] = b"\
@@ -112,6 +119,22 @@ fn of_a_fault(rt: HostRuntime) -> Result<(), Fail> {
     assert_eq!(rt; fault_in(rt.alloc(), HOSTS)?, None);
     let path = kept(rt.alloc(), field_at_fault(rt.alloc(), LIST)?)?;
     assert!(rt; matches!(path, Some(path) if path.as_str() == "tbsCertificate.validity"));
+    Ok(())
+}
+
+// A serial of context class, whose element begins at octet 4.
+#[test]
+fn of_a_rule(rt: HostRuntime) -> Result<(), Fail> {
+    let used = first_rule(rt.alloc(), LENIENT)?;
+    assert_eq!(rt;
+        used,
+        Some(LenientUse {
+            at: 4,
+            rule: Leniency::AnySerial
+        })
+    );
+    assert_eq!(rt; first_rule(rt.alloc(), HOSTS)?, None);
+    assert_eq!(rt; first_rule(rt.alloc(), LIST)?, None);
     Ok(())
 }
 
