@@ -2,7 +2,7 @@
 use Rattle.std.proofs.Common.{◌≡◌, List, [], ◌∷◌, ◌++◌, append_assoc, append-nil}
 use Rattle.std.specs.String.{string_bytes}
 use Rattle.x509_validators.specs.Message.{Message}
-use Rattle.x509_validators.specs.Steps.{Took}
+use Rattle.x509_fields.specs.Steps.{Took}
 use Rattle.x509_c.specs.MessageLines.{adds_line}
 use Rattle.x509_c.specs.Validation.{message_lines}
 use Rattle.x509_c.specs.declared.validation.MessageLines.{MessageLines}

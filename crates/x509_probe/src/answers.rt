@@ -1,5 +1,6 @@
 //! The answer to each word.
 
+use crate::anything;
 use x509_probe_show::Answer;
 
 /// Adds the answer to a word and its bytes; false where it is no word.
@@ -8,4 +9,5 @@ pub fn answer(word: &str, a: &[u8], b: &[u8], out: &mut Answer) -> bool {
         || x509_probe_fields::answer(word, a, b, out)
         || x509_probe_objects::answer(word, a, b, out)
         || x509_probe_rules::answer(word, a, b, out)
+        || anything::answer(word, a, out)
 }

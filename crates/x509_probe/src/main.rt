@@ -6,6 +6,7 @@
 #![tactic(auto)]
 
 mod answers;
+mod anything;
 mod change;
 mod check;
 mod lines;

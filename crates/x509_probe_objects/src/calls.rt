@@ -2,12 +2,10 @@
 
 use crate::columns::put_read;
 use std::alloc::AllocError;
-use x509_parser::certificate::X509Certificate;
-use x509_parser::der::{Oid, UnsignedBytes};
-use x509_parser::paths::{Part, path_to};
-use x509_parser::utils::format_serial;
-use x509_parser::x509::X509Version;
-use x509_parser::{parse_x509_certificate, parse_x509_der};
+use x509_certs::{X509Certificate, parse_x509_certificate, parse_x509_der};
+use x509_der::{Oid, UnsignedBytes};
+use x509_fields::{X509Version, format_serial};
+use x509_paths::{Part, path_to};
 use x509_probe_show::{Answer, Look, Show, look_at};
 
 // Four octets as a number.

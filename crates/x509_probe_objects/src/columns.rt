@@ -2,17 +2,17 @@
 
 use std::alloc::AllocError;
 use std::io;
-use x509_parser::certificate::X509Certificate;
-use x509_parser::der::{Err, FromDer, Oid, Reader, UnsignedBytes};
-use x509_parser::error::X509Error;
-use x509_parser::extensions::{ExtendedKeyUsage, GeneralName, X509Extension, X509ExtensionParser};
-use x509_parser::objects::registered_name;
-use x509_parser::signature_algorithm::{HashAlgorithm, signature_hash};
-use x509_parser::x509::{AlgorithmIdentifier, ReasonCode, SubjectPublicKeyInfo, X509Name};
-use x509_parser::{
-    parse_x509_certificate_marked, parse_x509_crl_marked, parse_x509_csr, parse_x509_csr_marked,
-};
+use x509_certs::{X509Certificate, parse_x509_certificate_marked};
+use x509_der::{Err, FromDer, Oid, Reader, UnsignedBytes};
+use x509_extensions::{X509Extension, X509ExtensionParser};
+use x509_fields::{AlgorithmIdentifier, ReasonCode, X509Error};
+use x509_general_names::GeneralName;
+use x509_keys::{HashAlgorithm, SubjectPublicKeyInfo, signature_hash};
+use x509_lists::parse_x509_crl_marked;
+use x509_names::{X509Name, registered_name};
 use x509_probe_show::{Answer, Look, Show, look_at, look_in};
+use x509_requests::{parse_x509_csr, parse_x509_csr_marked};
+use x509_values::ExtendedKeyUsage;
 
 // A text, in hex.
 fn put_text(out: &mut Answer, text: Result<String, AllocError>) {

@@ -2,7 +2,7 @@
 
 use std::alloc::{AllocError, Global};
 use x509_dump::{DumpLine, dump, push_line};
-use x509_parser::paths::Part;
+use x509_paths::Part;
 use x509_probe_show::Answer;
 
 // A line as text.

@@ -1,13 +1,11 @@
 //! Maps that took a list: under each identifier what stood with it.
 
 use std::collections::HashMap;
-use x509_parser::der::{FromDer, Oid};
-use x509_parser::error::X509Error;
-use x509_parser::extensions::{
-    AccessDescription, AuthorityInfoAccess, GeneralName, PolicyMapping, PolicyMappings,
-    SubjectInfoAccess,
-};
+use x509_der::{FromDer, Oid};
+use x509_fields::X509Error;
+use x509_general_names::{AccessDescription, AuthorityInfoAccess, GeneralName, SubjectInfoAccess};
 use x509_probe_show::{Answer, Hasher, Show, read_both};
+use x509_values::{PolicyMapping, PolicyMappings};
 
 /// A list that a map can take.
 trait IntoGroups<'a>: FromDer<'a, X509Error> + Show {

@@ -1,11 +1,13 @@
 //! The lenient rules that an object uses.
 
+use x509_certs::parse_x509_certificate_marked;
 use x509_der::Err;
-use x509_parser::error::X509Error;
-use x509_parser::leniencies::{LenientUse, leniencies};
-use x509_parser::paths::{Part, path_to};
-use x509_parser::{parse_x509_certificate_marked, parse_x509_crl_marked, parse_x509_csr_marked};
+use x509_fields::X509Error;
+use x509_leniencies::{LenientUse, leniencies};
+use x509_lists::parse_x509_crl_marked;
+use x509_paths::{Part, path_to};
 use x509_probe_show::Answer;
+use x509_requests::parse_x509_csr_marked;
 
 // Whether a strict reader takes what a reader takes.
 fn put_mark<T: Drop>(read: Result<(&[u8], T, bool), Err<X509Error>>, out: &mut Answer) {

@@ -1,10 +1,9 @@
-//! Answers of x509_probe that calls on whole objects give, and look-ups in them: objects of any kind, the calls of the facade, what is found by
-//! an identifier or a serial, maps, words for keys and columns, and the elements a line each.
+//! Answers of x509_probe that calls on whole objects give, and look-ups in them: what is found by an identifier
+//! or a serial, maps, words for keys and columns, identifiers from text, lenient rules and refused values, and the elements a line each.
 //!
 //! Each module answers the words of one subject, by a `match` on the word.
 #![tactic(auto)]
 
-mod anything;
 mod calls;
 mod columns;
 mod dumps;
@@ -12,13 +11,14 @@ mod groups;
 mod lenient;
 mod look_ups;
 mod refused;
+mod texts;
 
 use x509_probe_show::Answer;
 
 /// Adds the answer to a word and its bytes; false where it is no word of such a call.
 pub fn answer(word: &str, a: &[u8], b: &[u8], out: &mut Answer) -> bool {
     calls::answer(word, a, b, out)
-        || anything::answer(word, a, out)
+        || texts::answer(word, a, out)
         || columns::answer(word, a, out)
         || dumps::answer(word, a, out)
         || lenient::answer(word, a, out)

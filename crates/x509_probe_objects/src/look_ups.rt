@@ -1,20 +1,14 @@
 //! Look-ups.
 
 use std::collections::HashMap;
-use x509_extensions::{extensions_map, find_extension, get_extension_unique};
-use x509_parser::certificate::{
-    BasicExtension, TbsCertificate, X509Certificate, X509CertificateParser,
-};
-use x509_parser::certification_request::X509CertificationRequestInfo;
-use x509_parser::cri_attributes::ExtensionRequest;
-use x509_parser::der::{FromDer, Oid, Reader, UnsignedBytes};
-use x509_parser::error::X509Error;
-use x509_parser::extensions::X509Extension;
-use x509_parser::revocation_list::{
-    CertificateRevocationList, RevokedCertificate, TbsCertList, TbsCertListEntries,
-};
-use x509_parser::x509::X509Name;
+use x509_certs::{BasicExtension, TbsCertificate, X509Certificate, X509CertificateParser};
+use x509_der::{FromDer, Oid, Reader, UnsignedBytes};
+use x509_extensions::{X509Extension, extensions_map, find_extension, get_extension_unique};
+use x509_fields::X509Error;
+use x509_lists::{CertificateRevocationList, RevokedCertificate, TbsCertList, TbsCertListEntries};
+use x509_names::X509Name;
 use x509_probe_show::{Answer, Hasher, Look, Show, look_at, look_in, put_result};
+use x509_requests::{ExtensionRequest, X509CertificationRequestInfo};
 use x509_revoked::{EntriesIndex, IndexError, RevocationIndex};
 
 /// The extensions by their identifiers.

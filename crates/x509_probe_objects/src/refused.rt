@@ -1,7 +1,7 @@
 //! The values of an object's extensions that can't be read.
 
 use std::alloc::AllocError;
-use x509_parser::paths::Part;
+use x509_paths::Part;
 use x509_probe_show::Answer;
 use x509_refused_values::refused_values;
 

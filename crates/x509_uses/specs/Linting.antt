@@ -1,7 +1,7 @@
 -- What a validator and a visitor of a user's own say.
 use Rattle.std.specs.Prelude.{◌≡◌, ℕ, ◌+◌, ◌-◌, ◌^◌, min, List, length, nat_lt, codes, if◌then◌else◌, Ok}
 use Rattle.x509_validators.specs.Message.{Message, warning_if}
-use Rattle.x509_validators.specs.Visits.{Visited}
+use Rattle.x509_fields.specs.Visits.{Visited}
 use Rattle.x509_visitors.specs.CertificateEvents.{Event, of_extensions}
 use Rattle.x509_visitors.specs.ExtensionEvents.{extension}
 

@@ -9,8 +9,8 @@ use Rattle.std.proofs.lemmas.Map.Text.{is_eq-slice_cmp}
 use Rattle.x509_der.specs.declared.oid.Oid.{Oid}
 use Rattle.x509_der.specs.Oid.{oid_bytes}
 use Rattle.x509_validators.specs.Message.{Message, Logged, error_if}
-use Rattle.x509_validators.specs.Steps.{Took}
-use Rattle.x509_validators.proofs.Steps.{Took-none}
+use Rattle.x509_fields.specs.Steps.{Took}
+use Rattle.x509_fields.proofs.Steps.{Took-none}
 use Rattle.x509_values.specs.ExtendedKeyUsage.{oid_cmp}
 use Rattle.x509_validators.specs.Duplicates.{IsSetOf, is_among, is_new, repeat_error, repeat_errors, all_distinct}
 

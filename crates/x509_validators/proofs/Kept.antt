@@ -3,7 +3,7 @@ use Rattle.std.proofs.Common.{◌≡◌, List, [], ◌∷◌, ◌++◌, inl, inr
 use Rattle.x509_fields.specs.declared.error.X509Error.{X509Error}
 use Rattle.x509_fields.specs.declared.error.X509Error.TheVariants.{OutOfMemory}
 use Rattle.x509_validators.specs.Message.{Message, warning, error, WantsMemory, warnings_of, errors_of}
-use Rattle.x509_validators.specs.Steps.{Took, StoppedAt}
+use Rattle.x509_fields.specs.Steps.{Took, StoppedAt}
 use Rattle.x509_validators.specs.VecLogger.{Kept, keeps}
 
 pub warnings-kept : (s : Kept) (ms : List Message) (t : Kept) → Took keeps s ms t → t.warnings ≡ s.warnings ++ warnings_of ms

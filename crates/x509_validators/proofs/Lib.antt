@@ -4,5 +4,3 @@ pub mod Viewed
 pub mod Findings
 pub mod Kept
 pub mod Logs
-pub mod Steps
-pub mod Walking

@@ -7,10 +7,10 @@ use Rattle.std.proofs.lemmas.List.Folds.{flat_map-map, list_all-map, list_all_mo
 use Rattle.x509_fields.specs.declared.error.X509Error.{X509Error}
 use Rattle.x509_validators.specs.Findings.{findings, all_sound}
 use Rattle.x509_validators.specs.Message.{Message, Logged, WantsMemory}
-use Rattle.x509_validators.specs.Steps.{Took, StoppedAt}
-use Rattle.x509_validators.proofs.Findings.{all_sound-more}
+use Rattle.x509_fields.specs.Steps.{Took, StoppedAt}
 use Rattle.x509_validators.proofs.Logs.{memory-wanted}
-use Rattle.x509_validators.proofs.Steps.{running, Took-append, StoppedAt-after, StoppedAt-before, Took-flat_map, StoppedAt-flat_map, Took-findings, StoppedAt-findings}
+use Rattle.x509_fields.proofs.Steps.{running, Took-append, StoppedAt-after, StoppedAt-before, Took-flat_map, StoppedAt-flat_map}
+use Rattle.x509_validators.proofs.Findings.{Took-findings, StoppedAt-findings, all_sound-more}
 
 module _ {A V X : Type 0} (view : A → V) where
   findings-viewed : (f : List V → V → List X) (before xs : List A) → findings f (map view before) (map view xs) ≡ findings (λ ys y. f (map view ys) (view y)) before xs

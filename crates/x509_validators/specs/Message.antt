@@ -2,7 +2,7 @@
 use Rattle.std.specs.Prelude.{◌≡◌, ℕ, Bool, if◌then◌else◌, List, [], ◌∷◌, Result}
 use Rattle.x509_fields.specs.declared.error.X509Error.{X509Error}
 use Rattle.x509_fields.specs.declared.error.X509Error.TheVariants.{OutOfMemory}
-use Rattle.x509_validators.specs.Steps.{Stepped, Runs}
+use Rattle.x509_fields.specs.Steps.{Stepped, Runs}
 
 -- a text at its level
 pub data Message : Type 0 where

@@ -1,8 +1,8 @@
 -- The visits of a part are visits of the whole.
 use Rattle.std.proofs.Common.{List, [], ◌∷◌, Ok, Err, inl, inr, map}
 use Rattle.x509_fields.specs.declared.error.X509Error.{X509Error}
-use Rattle.x509_validators.specs.Steps.{Took, StoppedAt, NeverAtOnce}
-use Rattle.x509_validators.specs.Visits.{Visited, Walks}
+use Rattle.x509_fields.specs.Steps.{Took, StoppedAt, NeverAtOnce}
+use Rattle.x509_fields.specs.Visits.{Visited, Walks}
 
 module _ {S X Y : Type 0} (step : S → Y → Visited → S → Type 0) (f : X → Y) where
   abbrev Lifted : S → X → Visited → S → Type 0

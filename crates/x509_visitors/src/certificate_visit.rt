@@ -41,7 +41,7 @@ pub enum CertificateVisit<'v, 'a> {
 
 /// Takes every visit of a walk over a certificate, and says of each exactly what it does.
 pub trait CertificateVisits {
-    ghost use Rattle.x509_validators.specs.Visits.{Visited};
+    ghost use Rattle.x509_fields.specs.Visits.{Visited};
     ghost use Rattle.x509_visitors.specs.CertificateEvents.{Event};
     ghost use Rattle.x509_visitors.specs.CertificateVisits.{event_of};
 

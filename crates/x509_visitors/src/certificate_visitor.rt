@@ -1,6 +1,6 @@
 //! Visitors with a method for each part.
 
-ghost use Rattle.x509_validators.specs.Visits.{StepsOrSkips};
+ghost use Rattle.x509_fields.specs.Visits.{StepsOrSkips};
 ghost use Rattle.x509_visitors.specs.CertificateEvents.{of_extensions};
 ghost use Rattle.x509_visitors.specs.ExtensionVisits.{event_of};
 
@@ -55,7 +55,7 @@ pub trait X509CertificateVisitor {
     ghost use Rattle.x509_certs.specs.TbsCertificate.{tbs_of};
     ghost use Rattle.x509_certs.specs.UniqueIdentifier.{bits_of_uid};
     ghost use Rattle.x509_certs.specs.Validity.{period_of};
-    ghost use Rattle.x509_validators.specs.Visits.{Visited, StepsOrSkips, Walks};
+    ghost use Rattle.x509_fields.specs.Visits.{Visited, StepsOrSkips, Walks};
     ghost use Rattle.x509_visitors.specs.CertificateEvents as events;
     ghost use Rattle.x509_visitors.specs.ExtensionEvents as extension_event;
 
@@ -409,7 +409,7 @@ pub trait X509CertificateVisitor {
 }
 
 impl<V: X509CertificateVisitor> CertificateVisits for V {
-    ghost use Rattle.x509_validators.specs.Visits.{StepsOrSkips};
+    ghost use Rattle.x509_fields.specs.Visits.{StepsOrSkips};
 
     ghost visit_step = { λ s x r t. StepsOrSkips V.step s x r t };
 

@@ -4,7 +4,7 @@ ghost use Rattle.std.specs.Prelude.{[], ◌∷◌, map};
 ghost use Rattle.x509_extensions.specs.Extension.{extension_of};
 ghost use Rattle.x509_certs.specs.Certificate.{certificate_of};
 ghost use Rattle.x509_certs.specs.TbsCertificate.{tbs_of};
-ghost use Rattle.x509_validators.specs.Visits.{Walks};
+ghost use Rattle.x509_fields.specs.Visits.{Walks};
 ghost use Rattle.x509_visitors.specs.CertificateEvents.{of_extensions, field_events, signature_events};
 ghost use Rattle.x509_visitors.specs.CertificateVisits.{event_of};
 ghost use Rattle.x509_visitors.specs.ExtensionEvents.{extensions_events, in_certificate};
@@ -18,7 +18,7 @@ use x509_fields::X509Error;
 /// A value that a visitor of certificates is led over: a certificate, or its signed part alone.
 pub trait WalkCertificate {
     ghost use Rattle.std.specs.Prelude.{List};
-    ghost use Rattle.x509_validators.specs.Visits.{Walks};
+    ghost use Rattle.x509_fields.specs.Visits.{Walks};
     ghost use Rattle.x509_visitors.specs.CertificateEvents.{Event};
 
     // the visits of a value, in order
@@ -40,7 +40,7 @@ impl WalkCertificate for X509Certificate<'_> {
 
     ghost visits = { λ c. events (certificate_of c) };
 
-    #[tactic(auto, using(x509_validators::proofs::Walking::walking), unfolding(crate::specs::CertificateEvents::events, crate::specs::CertificateVisits::event_of))]
+    #[tactic(auto, using(x509_fields::proofs::Walking::walking), unfolding(crate::specs::CertificateEvents::events, crate::specs::CertificateVisits::event_of))]
     fn walk<V: CertificateVisits>(&self, visitor: &mut V) -> Result<(), X509Error> {
         visit_one(
             CertificateVisit::TbsCertificate(&self.tbs_certificate),
@@ -57,7 +57,7 @@ impl WalkCertificate for TbsCertificate<'_> {
 
     ghost visits = { λ t. tbs_events (tbs_of t) };
 
-    #[tactic(auto, using(x509_validators::proofs::Walking::walking), unfolding(crate::specs::CertificateEvents::tbs_events))]
+    #[tactic(auto, using(x509_fields::proofs::Walking::walking), unfolding(crate::specs::CertificateEvents::tbs_events))]
     fn walk<V: CertificateVisits>(&self, visitor: &mut V) -> Result<(), X509Error> {
         walk_fields(self, visitor)?;
         walk_own_extensions(self.extensions(), visitor)
@@ -65,7 +65,7 @@ impl WalkCertificate for TbsCertificate<'_> {
 }
 
 // Makes one visit.
-#[tactic(auto, using(x509_validators::proofs::Walking::walking))]
+#[tactic(auto, using(x509_fields::proofs::Walking::walking))]
 fn visit_one<V: CertificateVisits>(
     visit: CertificateVisit<'_, '_>,
     visitor: &mut V,
@@ -76,7 +76,7 @@ fn visit_one<V: CertificateVisits>(
 }
 
 // The fields before the extensions.
-#[tactic(auto, using(x509_validators::proofs::Walking::walking), unfolding(crate::specs::CertificateEvents::field_events, crate::specs::CertificateVisits::event_of))]
+#[tactic(auto, using(x509_fields::proofs::Walking::walking), unfolding(crate::specs::CertificateEvents::field_events, crate::specs::CertificateVisits::event_of))]
 fn walk_fields<V: CertificateVisits>(
     tbs: &TbsCertificate<'_>,
     visitor: &mut V,
@@ -107,7 +107,7 @@ fn walk_fields<V: CertificateVisits>(
 }
 
 // The algorithm and the bits of the signature.
-#[tactic(auto, using(x509_validators::proofs::Walking::walking), unfolding(crate::specs::CertificateEvents::signature_events, crate::specs::CertificateVisits::event_of))]
+#[tactic(auto, using(x509_fields::proofs::Walking::walking), unfolding(crate::specs::CertificateEvents::signature_events, crate::specs::CertificateVisits::event_of))]
 fn walk_signature<V: CertificateVisits>(
     certificate: &X509Certificate<'_>,
     visitor: &mut V,

@@ -3,7 +3,7 @@
 ghost use Rattle.std.specs.Prelude.{◌≡◌, [], ◌∷◌, map};
 ghost use Rattle.std.specs.List.{flat_map};
 ghost use Rattle.x509_extensions.specs.Extension.{extension_of};
-ghost use Rattle.x509_validators.specs.Visits.{Walks};
+ghost use Rattle.x509_fields.specs.Visits.{Walks};
 ghost use Rattle.x509_visitors.specs.ExtensionEvents.{value_event, or_unknown, extension_events, extensions_events};
 ghost use Rattle.x509_visitors.specs.ExtensionVisits.{event_of};
 
@@ -14,7 +14,7 @@ use x509_fields::X509Error;
 /// Takes the visits of extensions that stand in a structure `S`.
 pub(crate) trait ExtensionVisits<S> {
     ghost use Rattle.std.specs.Prelude.{◌≡◌, Bool};
-    ghost use Rattle.x509_validators.specs.Visits.{Visited};
+    ghost use Rattle.x509_fields.specs.Visits.{Visited};
     ghost use Rattle.x509_visitors.specs.ExtensionEvents.{Event};
     ghost use Rattle.x509_visitors.specs.ExtensionVisits.{event_of};
 
@@ -34,7 +34,7 @@ pub(crate) trait ExtensionVisits<S> {
 }
 
 /// The extensions together, each of them, and all of them once more.
-#[tactic(auto, using(x509_validators::proofs::Walking::walking), unfolding(crate::specs::ExtensionEvents::extensions_events, crate::specs::ExtensionVisits::event_of))]
+#[tactic(auto, using(x509_fields::proofs::Walking::walking), unfolding(crate::specs::ExtensionEvents::extensions_events, crate::specs::ExtensionVisits::event_of))]
 pub(crate) fn walk_extensions<S, V: ExtensionVisits<S>>(
     extensions: &[X509Extension<'_>],
     visitor: &mut V,
@@ -47,7 +47,7 @@ pub(crate) fn walk_extensions<S, V: ExtensionVisits<S>>(
 }
 
 // Makes one visit.
-#[tactic(auto, using(x509_validators::proofs::Walking::walking))]
+#[tactic(auto, using(x509_fields::proofs::Walking::walking))]
 fn visit_one<S, V: ExtensionVisits<S>>(
     visit: ExtensionVisit<'_, '_>,
     visitor: &mut V,
@@ -58,7 +58,7 @@ fn visit_one<S, V: ExtensionVisits<S>>(
 }
 
 // Each extension, in order.
-#[tactic(auto, using(x509_validators::proofs::Walking::walking))]
+#[tactic(auto, using(x509_fields::proofs::Walking::walking))]
 fn walk_each<S, V: ExtensionVisits<S>>(
     extensions: &[X509Extension<'_>],
     visitor: &mut V,
@@ -72,7 +72,7 @@ fn walk_each<S, V: ExtensionVisits<S>>(
 }
 
 // An extension, and then what its value says.
-#[tactic(auto, using(x509_validators::proofs::Walking::walking), unfolding(crate::specs::ExtensionEvents::extension_events, crate::specs::ExtensionVisits::event_of))]
+#[tactic(auto, using(x509_fields::proofs::Walking::walking), unfolding(crate::specs::ExtensionEvents::extension_events, crate::specs::ExtensionVisits::event_of))]
 fn walk_extension<S, V: ExtensionVisits<S>>(
     extension: &X509Extension<'_>,
     visitor: &mut V,

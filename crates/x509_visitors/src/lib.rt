@@ -1,5 +1,5 @@
-//! Visitors of certificates and of lists of revoked certificates: one visit for each part, in a fixed order. It may use both structures,
-//! and of x509_validators what is said of steps that are taken one after another.
+//! Visitors of certificates and of lists of revoked certificates: one visit for each part, in a fixed order. It may use both
+//! structures, and knows no validators.
 #![tactic(auto)]
 
 mod certificate_visit;

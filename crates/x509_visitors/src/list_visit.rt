@@ -36,7 +36,7 @@ pub enum ListVisit<'v, 'a> {
 
 /// Takes every visit of a walk over a list of revoked certificates, and says of each exactly what it does.
 pub trait ListVisits {
-    ghost use Rattle.x509_validators.specs.Visits.{Visited};
+    ghost use Rattle.x509_fields.specs.Visits.{Visited};
     ghost use Rattle.x509_visitors.specs.ListEvents.{Event};
     ghost use Rattle.x509_visitors.specs.ListVisits.{event_of};
 

@@ -1,6 +1,6 @@
 //! Visitors with a method for each part.
 
-ghost use Rattle.x509_validators.specs.Visits.{StepsOrSkips};
+ghost use Rattle.x509_fields.specs.Visits.{StepsOrSkips};
 ghost use Rattle.x509_visitors.specs.ListEvents.{of_extensions};
 ghost use Rattle.x509_visitors.specs.ExtensionVisits.{event_of};
 
@@ -42,7 +42,7 @@ pub trait CertificateRevocationListVisitor {
     ghost use Rattle.x509_lists.specs.CertificateList.{list_of};
     ghost use Rattle.x509_lists.specs.RevokedCertificate.{revoked_of};
     ghost use Rattle.x509_lists.specs.TbsCertList.{tbs_list_of};
-    ghost use Rattle.x509_validators.specs.Visits.{Visited, StepsOrSkips, Walks};
+    ghost use Rattle.x509_fields.specs.Visits.{Visited, StepsOrSkips, Walks};
     ghost use Rattle.x509_visitors.specs.ListEvents as events;
     ghost use Rattle.x509_visitors.specs.ExtensionEvents as extension_event;
 
@@ -282,7 +282,7 @@ pub trait CertificateRevocationListVisitor {
 }
 
 impl<V: CertificateRevocationListVisitor> ListVisits for V {
-    ghost use Rattle.x509_validators.specs.Visits.{StepsOrSkips};
+    ghost use Rattle.x509_fields.specs.Visits.{StepsOrSkips};
 
     ghost visit_step = { λ s x r t. StepsOrSkips V.step s x r t };
 

@@ -5,7 +5,7 @@ ghost use Rattle.x509_extensions.specs.Extension.{extension_of};
 ghost use Rattle.x509_lists.specs.CertificateList.{list_of};
 ghost use Rattle.x509_lists.specs.RevokedCertificate.{revoked_of};
 ghost use Rattle.x509_lists.specs.TbsCertList.{tbs_list_of};
-ghost use Rattle.x509_validators.specs.Visits.{Walks};
+ghost use Rattle.x509_fields.specs.Visits.{Walks};
 ghost use Rattle.x509_visitors.specs.ListEvents.{of_extensions, revoked_certificate, revoked_events, field_events};
 ghost use Rattle.x509_visitors.specs.ListEvents.{signature_events};
 ghost use Rattle.x509_visitors.specs.ListVisits.{event_of};
@@ -20,7 +20,7 @@ use x509_lists::{CertificateRevocationList, RevokedCertificate, TbsCertList};
 /// A value that a visitor of lists is led over: a list of revoked certificates, or its signed part alone.
 pub trait WalkRevocationList {
     ghost use Rattle.std.specs.Prelude.{List};
-    ghost use Rattle.x509_validators.specs.Visits.{Walks};
+    ghost use Rattle.x509_fields.specs.Visits.{Walks};
     ghost use Rattle.x509_visitors.specs.ListEvents.{Event};
 
     // the visits of a value, in order
@@ -42,7 +42,7 @@ impl WalkRevocationList for CertificateRevocationList<'_> {
 
     ghost visits = { λ c. events (list_of c) };
 
-    #[tactic(auto, using(x509_validators::proofs::Walking::walking), unfolding(crate::specs::ListEvents::events, crate::specs::ListVisits::event_of))]
+    #[tactic(auto, using(x509_fields::proofs::Walking::walking), unfolding(crate::specs::ListEvents::events, crate::specs::ListVisits::event_of))]
     fn walk<V: ListVisits>(&self, visitor: &mut V) -> Result<(), X509Error> {
         visit_one(ListVisit::TbsCertList(&self.tbs_cert_list), visitor)?;
         self.tbs_cert_list.walk(visitor)?;
@@ -56,7 +56,7 @@ impl WalkRevocationList for TbsCertList<'_> {
 
     ghost visits = { λ t. tbs_events (tbs_list_of t) };
 
-    #[tactic(auto, using(x509_validators::proofs::Walking::walking), unfolding(crate::specs::ListEvents::tbs_events))]
+    #[tactic(auto, using(x509_fields::proofs::Walking::walking), unfolding(crate::specs::ListEvents::tbs_events))]
     fn walk<V: ListVisits>(&self, visitor: &mut V) -> Result<(), X509Error> {
         walk_fields(self, visitor)?;
         walk_revoked(self.revoked_certificates.as_slice(), visitor)?;
@@ -65,7 +65,7 @@ impl WalkRevocationList for TbsCertList<'_> {
 }
 
 // Makes one visit.
-#[tactic(auto, using(x509_validators::proofs::Walking::walking))]
+#[tactic(auto, using(x509_fields::proofs::Walking::walking))]
 fn visit_one<V: ListVisits>(visit: ListVisit<'_, '_>, visitor: &mut V) -> Result<(), X509Error>
     ensures { Walks V.visit_step visitor.old (event_of visit.entry ∷ []) result visitor.new }
 {
@@ -73,7 +73,7 @@ fn visit_one<V: ListVisits>(visit: ListVisit<'_, '_>, visitor: &mut V) -> Result
 }
 
 // The fields before the entries.
-#[tactic(auto, using(x509_validators::proofs::Walking::walking), unfolding(crate::specs::ListEvents::field_events, crate::specs::ListVisits::event_of))]
+#[tactic(auto, using(x509_fields::proofs::Walking::walking), unfolding(crate::specs::ListEvents::field_events, crate::specs::ListVisits::event_of))]
 fn walk_fields<V: ListVisits>(tbs: &TbsCertList<'_>, visitor: &mut V) -> Result<(), X509Error>
     ensures { Walks V.visit_step visitor.old (field_events (tbs_list_of tbs.now)) result visitor.new }
 {
@@ -85,7 +85,7 @@ fn walk_fields<V: ListVisits>(tbs: &TbsCertList<'_>, visitor: &mut V) -> Result<
 }
 
 // The entries together, and each of them.
-#[tactic(auto, using(x509_validators::proofs::Walking::walking), unfolding(crate::specs::ListEvents::revoked_events, crate::specs::ListVisits::event_of))]
+#[tactic(auto, using(x509_fields::proofs::Walking::walking), unfolding(crate::specs::ListEvents::revoked_events, crate::specs::ListVisits::event_of))]
 fn walk_revoked<V: ListVisits>(
     certificates: &[RevokedCertificate<'_>],
     visitor: &mut V,
@@ -97,7 +97,7 @@ fn walk_revoked<V: ListVisits>(
 }
 
 // Each entry, in order.
-#[tactic(auto, using(x509_validators::proofs::Walking::walking), unfolding(crate::specs::ListVisits::event_of))]
+#[tactic(auto, using(x509_fields::proofs::Walking::walking), unfolding(crate::specs::ListVisits::event_of))]
 fn walk_entries<V: ListVisits>(
     certificates: &[RevokedCertificate<'_>],
     visitor: &mut V,
@@ -111,7 +111,7 @@ fn walk_entries<V: ListVisits>(
 }
 
 // The algorithm and the bits of the signature.
-#[tactic(auto, using(x509_validators::proofs::Walking::walking), unfolding(crate::specs::ListEvents::signature_events, crate::specs::ListVisits::event_of))]
+#[tactic(auto, using(x509_fields::proofs::Walking::walking), unfolding(crate::specs::ListEvents::signature_events, crate::specs::ListVisits::event_of))]
 fn walk_signature<V: ListVisits>(
     list: &CertificateRevocationList<'_>,
     visitor: &mut V,

@@ -1,4 +1,4 @@
-use Rattle.x509_validators.proofs.Walking.{accepted-by-defaults, same-by-defaults}
+use Rattle.x509_fields.proofs.Walking.{accepted-by-defaults, same-by-defaults}
 use Rattle.x509_uses.proofs.visiting.walk_list_quietly.Goals as goal
 
 pub returns-clause-answer : goal.returns-clause-answer

@@ -1,6 +1,6 @@
 use Rattle.std.proofs.Common.{map, take}
 use Rattle.x509_general_names.specs.GeneralName.{general_name_of}
-use Rattle.x509_validators.specs.Steps.{Took}
+use Rattle.x509_fields.specs.Steps.{Took}
 use Rattle.x509_validators.specs.AlternativeNames.{names_warnings}
 use Rattle.x509_validators.proofs.alternative_names.check_names.Given as goal
 

@@ -1,7 +1,7 @@
 use Rattle.std.proofs.Common.{map, take}
 use Rattle.std.specs.List.{flat_map}
 use Rattle.x509_extensions.specs.Extension.{extension_of}
-use Rattle.x509_validators.specs.Steps.{Took}
+use Rattle.x509_fields.specs.Steps.{Took}
 use Rattle.x509_validators.specs.AlternativeNames.{names_in}
 use Rattle.x509_validators.proofs.alternative_names.check_names_in.Given as goal
 

@@ -1,5 +1,5 @@
 use Rattle.std.proofs.Common.{◌≡◌, map, take}
-use Rattle.x509_validators.specs.Steps.{Took}
+use Rattle.x509_fields.specs.Steps.{Took}
 use Rattle.x509_validators.specs.Duplicates.{IsSetOf, repeat_errors, all_distinct}
 use Rattle.x509_validators.proofs.duplicates.check_duplicates.Given as goal
 

@@ -1,7 +1,7 @@
 use Rattle.std.proofs.Common.{◌≡◌, map, take}
 use Rattle.std.specs.List.{flat_map, list_all}
 use Rattle.x509_extensions.specs.Extension.{extension_of}
-use Rattle.x509_validators.specs.Steps.{Took}
+use Rattle.x509_fields.specs.Steps.{Took}
 use Rattle.x509_validators.specs.Extensions.{extension_messages, is_sound_extension}
 use Rattle.x509_validators.proofs.extensions.check_values.Given as goal
 

@@ -1,6 +1,6 @@
 use Rattle.std.proofs.Common.{take, map}
 use Rattle.std.specs.List.{flat_map}
-use Rattle.x509_validators.specs.Steps.{Took}
+use Rattle.x509_fields.specs.Steps.{Took}
 use Rattle.x509_extensions.specs.Extension.{extension_of}
 use Rattle.x509_visitors.specs.ExtensionEvents.{extension_events}
 use Rattle.x509_visitors.proofs.extension_walk.walk_each.Given as goal

@@ -1,5 +1,5 @@
 use Rattle.std.proofs.Common.{take, map}
-use Rattle.x509_validators.specs.Steps.{Took}
+use Rattle.x509_fields.specs.Steps.{Took}
 use Rattle.x509_lists.specs.RevokedCertificate.{revoked_of}
 use Rattle.x509_visitors.specs.ListEvents.{revoked_certificate}
 use Rattle.x509_visitors.proofs.list_walk.walk_entries.Given as goal

@@ -1,7 +1,7 @@
 use Rattle.std.proofs.Common.{◌≡◌, map, ◌++◌}
 use Rattle.std.specs.List.{flat_map}
 use Rattle.x509_names.specs.Names.{attributes_in, attributes_left}
-use Rattle.x509_validators.specs.Steps.{Took}
+use Rattle.x509_fields.specs.Steps.{Took}
 use Rattle.x509_validators.proofs.Names.{warnings_seen}
 use Rattle.x509_validators.proofs.name.X509NameStructureValidatorValidator.validate.Given as goal
 

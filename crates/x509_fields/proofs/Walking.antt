@@ -4,9 +4,9 @@ use Rattle.std.specs.List.{flat_map}
 use Rattle.std.proofs.lemmas.Simd.{map-map}
 use Rattle.std.proofs.lemmas.List.Folds.{flat_map-map}
 use Rattle.x509_fields.specs.declared.error.X509Error.{X509Error}
-use Rattle.x509_validators.specs.Steps.{Took, StoppedAt, NeverAtOnce}
-use Rattle.x509_validators.proofs.Steps as steps
-use Rattle.x509_validators.specs.Visits.{Visited, Walks, StepsOrSkips}
+use Rattle.x509_fields.specs.Steps.{Took, StoppedAt, NeverAtOnce}
+use Rattle.x509_fields.proofs.Steps as steps
+use Rattle.x509_fields.specs.Visits.{Visited, Walks, StepsOrSkips}
 
 module _ {S X : Type 0} (step : S → X → Visited → S → Type 0) where
   -- a walk of one visit

@@ -4,9 +4,7 @@ use Rattle.std.specs.List.{flat_map}
 use Rattle.std.proofs.lemmas.List.{take_more, take-append-drop, map-append}
 use Rattle.std.proofs.lemmas.List.Concat.{flat_map-append}
 use Rattle.x509_fields.specs.declared.error.X509Error.{X509Error}
-use Rattle.x509_validators.specs.Findings.{findings}
-use Rattle.x509_validators.specs.Steps.{Stepped, Took, StoppedAt, Runs}
-use Rattle.x509_validators.proofs.Findings.{findings-append, findings-more}
+use Rattle.x509_fields.specs.Steps.{Stepped, Took, StoppedAt, Runs}
 
 module _ {S X : Type 0} (step : S → X → Stepped → S → Type 0) where
   -- no step
@@ -52,12 +50,12 @@ module _ {S X : Type 0} (AtOnce : X509Error → Type 0) (step : S → X → Step
   Runs-after s xs u ys a (Err e) t p q = StoppedAt-after s xs u ys e t p q
 
   -- a list of steps that is another one written otherwise
-  StoppedAt-within : (s u : S) (xs ys zs : List X) (whole part : List X) (e : X509Error) (t : S) → whole ≡ part ++ zs → part ≡ xs ++ ys → Took step s xs u → StoppedAt AtOnce step u ys e t → StoppedAt AtOnce step s whole e t
+  pub StoppedAt-within : (s u : S) (xs ys zs : List X) (whole part : List X) (e : X509Error) (t : S) → whole ≡ part ++ zs → part ≡ xs ++ ys → Took step s xs u → StoppedAt AtOnce step u ys e t → StoppedAt AtOnce step s whole e t
   StoppedAt-within s u xs ys zs whole part e t split joined p q =
       let P : List X → Type 0 = λ ms. StoppedAt AtOnce step s ms e t in
       subst P (sym split) (StoppedAt-before s part zs e t (subst P (sym joined) (StoppedAt-after s xs u ys e t p q)))
 
--- ---- runs over the members of a list: each member one step, each a list of steps, or each what is found there
+-- ---- runs over the members of a list: each member one step, or each a list of steps
 
 module _ {S X A : Type 0} (step : S → X → Stepped → S → Type 0) where
   map-more : (f : A → X) (xs : List A) (k : ℕ) (d : A) → k < length xs → map f (take (k + 1) xs) ≡ map f (take k xs) ++ f (get_or xs k d) ∷ []
@@ -76,11 +74,6 @@ module _ {S X A : Type 0} (step : S → X → Stepped → S → Type 0) where
       let P : List X → Type 0 = λ ys. Took step s ys t in
       subst P (sym (flat_map-more f xs k d h)) (Took-append step s (flat_map f (take k xs)) u (f (get_or xs k d)) t p q)
 
-  pub Took-findings : (f : List A → A → List X) (xs : List A) (k : ℕ) (d : A) (s u t : S) → k < length xs → Took step s (findings f [] (take k xs)) u → Took step u (f (take k xs) (get_or xs k d)) t → Took step s (findings f [] (take (k + 1) xs)) t
-  Took-findings f xs k d s u t h p q =
-      let P : List X → Type 0 = λ ys. Took step s ys t in
-      subst P (sym (findings-more f xs k d h)) (Took-append step s (findings f [] (take k xs)) u (f (take k xs) (get_or xs k d)) t p q)
-
 module _ {S X A : Type 0} (AtOnce : X509Error → Type 0) (step : S → X → Stepped → S → Type 0) where
   pub StoppedAt-map : (f : A → X) (xs : List A) (k : ℕ) (d : A) (s u : S) (e : X509Error) (t : S) → k < length xs → Took step s (map f (take k xs)) u → step u (f (get_or xs k d)) (Err e) t → StoppedAt AtOnce step s (map f xs) e t
   StoppedAt-map f xs k d s u e t h p q =
@@ -94,12 +87,6 @@ module _ {S X A : Type 0} (AtOnce : X509Error → Type 0) (step : S → X → St
       let R : List A → Type 0 = λ ys. flat_map f ys ≡ flat_map f (take (k + 1) xs) ++ flat_map f (drop (k + 1) xs) in
       StoppedAt-within AtOnce step s u (flat_map f (take k xs)) (f (get_or xs k d)) (flat_map f (drop (k + 1) xs)) (flat_map f xs) (flat_map f (take (k + 1) xs)) e t
       (subst R (take-append-drop (k + 1) xs) (flat_map-append f (take (k + 1) xs) (drop (k + 1) xs))) (flat_map-more step f xs k d h) p q
-
-  pub StoppedAt-findings : (f : List A → A → List X) (xs : List A) (k : ℕ) (d : A) (s u : S) (e : X509Error) (t : S) → k < length xs → Took step s (findings f [] (take k xs)) u → StoppedAt AtOnce step u (f (take k xs) (get_or xs k d)) e t → StoppedAt AtOnce step s (findings f [] xs) e t
-  StoppedAt-findings f xs k d s u e t h p q =
-      let R : List A → Type 0 = λ ys. findings f [] ys ≡ findings f [] (take (k + 1) xs) ++ findings f (take (k + 1) xs) (drop (k + 1) xs) in
-      StoppedAt-within AtOnce step s u (findings f [] (take k xs)) (f (take k xs) (get_or xs k d)) (findings f (take (k + 1) xs) (drop (k + 1) xs)) (findings f [] xs) (findings f [] (take (k + 1) xs)) e t
-      (subst R (take-append-drop (k + 1) xs) (findings-append f [] (take (k + 1) xs) (drop (k + 1) xs))) (findings-more f xs k d h) p q
 
 pub ruleset running = (Took-none, Took-one, StoppedAt-one, Took-append, StoppedAt-after, StoppedAt-before)
 

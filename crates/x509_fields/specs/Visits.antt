@@ -1,6 +1,6 @@
 -- What a walk over a value's parts does to a visitor.
 use Rattle.std.specs.Prelude.{◌≡◌, List, ◌⊎◌, Ok}
-use Rattle.x509_validators.specs.Steps.{Stepped, Runs, NeverAtOnce}
+use Rattle.x509_fields.specs.Steps.{Stepped, Runs, NeverAtOnce}
 
 -- the answer of a visit
 abbrev pub Visited : Type 0
