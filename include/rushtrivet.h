@@ -128,7 +128,7 @@ typedef struct rtv_extension {
 
 /* Reads the certificate at the front of the buffer. The first `room` extensions are written, in order; certificate->extension_count says
  * how many there are. deep: the values of extensions are read too, which makes a difference only to what strict takes. strict: what
- * needed one of the reader's lenient rules is RTV_GENERIC. */
+ * needed one of the reader's lenient rules is RTV_GENERIC, at octet 0: rtv_leniencies() tells the rules, and where they are used. */
 rtv_status rtv_read_certificate(const uint8_t *der, size_t length, bool deep, bool strict,
                                 rtv_certificate *certificate, rtv_extension *extensions, size_t room, size_t *at);
 

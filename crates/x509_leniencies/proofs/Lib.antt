@@ -1,2 +1,3 @@
 pub mod Judging
 pub mod Using
+pub mod StrictReading

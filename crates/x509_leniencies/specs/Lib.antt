@@ -1,3 +1,4 @@
 pub mod Judgements
 pub mod Uses
+pub mod StrictRefusals
 pub mod Words

@@ -1,12 +1,16 @@
-//! The lenient rules that an object uses.
+//! The lenient rules that an object uses, and what strict readers tell of them.
 
 use x509_certs::parse_x509_certificate_marked;
 use x509_der::Err;
 use x509_fields::X509Error;
-use x509_leniencies::{LenientUse, leniencies};
+use x509_leniencies::{
+    LenientUse, StrictRefusal, leniencies, parse_x509_certificate_strict_located,
+    parse_x509_crl_entries_strict_located, parse_x509_crl_strict_located,
+    parse_x509_csr_strict_located,
+};
 use x509_lists::parse_x509_crl_marked;
 use x509_paths::{Part, path_to};
-use x509_probe_show::Answer;
+use x509_probe_show::{Answer, Show};
 use x509_requests::parse_x509_csr_marked;
 
 // Whether a strict reader takes what a reader takes.
@@ -47,7 +51,25 @@ fn put_uses(object: Part, a: &[u8], out: &mut Answer) {
     }
 }
 
-/// Adds whether an object stands plainly, and the lenient rules that it uses; false where the word names none.
+// What a strict reader takes: the length of the rest, and the value; or why it refuses, the octet, and the rule.
+fn put_strict<T: Show>(read: Result<(&[u8], T), StrictRefusal>, out: &mut Answer) {
+    match read {
+        Ok((rest, value)) => {
+            out.add("ok rest=");
+            out.display(&rest.len());
+            out.add(" ");
+            value.show(out);
+        }
+        Err(refusal) if refusal.why.is_out_of_memory() => out.stop(),
+        Err(refusal) => {
+            out.display(&refusal);
+            out.add(" ");
+            out.refusal(&refusal.why);
+        }
+    }
+}
+
+/// Adds whether an object stands plainly, and the lenient rules that it uses, or what a strict reader says; false where the word names none.
 pub fn answer(word: &str, a: &[u8], out: &mut Answer) -> bool {
     let alloc = out.alloc();
     match word {
@@ -63,6 +85,10 @@ pub fn answer(word: &str, a: &[u8], out: &mut Answer) -> bool {
             put_mark(parse_x509_csr_marked(alloc, a), out);
             put_uses(Part::Request, a, out);
         }
+        "certificate_strictly" => put_strict(parse_x509_certificate_strict_located(alloc, a), out),
+        "list_strictly" => put_strict(parse_x509_crl_strict_located(alloc, a), out),
+        "list_entries_strictly" => put_strict(parse_x509_crl_entries_strict_located(alloc, a), out),
+        "request_strictly" => put_strict(parse_x509_csr_strict_located(alloc, a), out),
         _ => return false,
     }
     true

@@ -10,7 +10,10 @@ use Rattle.x509_paths.specs.declared.part.Part.TheVariants as parts
 use Rattle.x509_fields.specs.Times.{instant_of}
 use Rattle.x509_fields.specs.declared.time.asn1_time.ASN1Time.{ASN1Time}
 use Rattle.x509_certs.specs.declared.validity.Validity.{Validity}
-use Rattle.x509_certs.specs.Certificate.{Certificate, HoldsSignedPart, certificate}
+use Rattle.x509_certs.specs.Certificate.{Certificate, HoldsSignedPart, certificate, certificate_by}
+use Rattle.x509_leniencies.specs.StrictRefusals.{StandsBy, first_use}
+use Rattle.x509_leniencies.specs.Uses.{leniencies}
+use Rattle.x509_leniencies.specs.declared.strict.StrictRefusal.{StrictRefusal}
 
 -- The signed part of the certificate at the front of the input, up to this rest: the first element in the contents of the
 -- certificate, whole.
@@ -34,6 +37,14 @@ IsCertificate input = (value : Certificate) × (rest : List ℕ) × IsFront (cer
 -- the grammar of certificates refuses the input at this octet, for a reason with these words
 abbrev pub IsFault : List ℕ → ℕ → List ℕ → Type 0
 IsFault input at word = (why : Refusal X509Error) × (left : ℕ) × (certificate true).Refuses input why left × (at + left ≡ length input) × (word ≡ refusal_word x509_word why)
+
+-- one that no lenient rule is needed for
+abbrev pub IsPlainCertificate : List ℕ → Type 0
+IsPlainCertificate input = (value : Certificate) × (rest : List ℕ) × IsFront (certificate_by true true) input value rest
+
+-- the first lenient rule that is needed, or where the grammar refuses the input
+abbrev pub IsStrictFault : List ℕ → StrictRefusal → Type 0
+IsStrictFault input refusal = StandsBy (certificate true) input (first_use (leniencies parts.Certificate input)) refusal
 
 -- the fields that lead to such an octet have these names
 abbrev pub IsPathToFault : List ℕ → List ℕ → Type 0

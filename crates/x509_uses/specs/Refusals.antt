@@ -1,11 +1,10 @@
 -- What a service does with an input that was refused.
-use Rattle.std.specs.Prelude.{true, List, [], ◌∷◌, Option, Some, None, if◌then◌else◌}
+use Rattle.std.specs.Prelude.{true, if◌then◌else◌}
 use Rattle.x509_der.specs.Promises.{is_excused}
 use Rattle.x509_der.specs.declared.error.Err.{Err as Refusal}
 use Rattle.x509_der.specs.declared.error.Err.TheVariants as refusals
 use Rattle.x509_fields.specs.Errors.{is_x509_memory}
 use Rattle.x509_fields.specs.declared.error.X509Error.{X509Error}
-use Rattle.x509_leniencies.specs.Uses.{Use}
 use Rattle.x509_uses.specs.declared.refusals.Next.{Next}
 use Rattle.x509_uses.specs.declared.refusals.Next.TheVariants.{AwaitMore, TryAgain, Refuse}
 
@@ -13,8 +12,3 @@ use Rattle.x509_uses.specs.declared.refusals.Next.TheVariants.{AwaitMore, TryAga
 abbrev pub what_next : Refusal X509Error → Next
 what_next refusals.Incomplete = AwaitMore
 what_next refusal = if is_excused is_x509_memory true refusal then TryAgain else Refuse
-
--- the first of the rules that an object uses
-abbrev pub first_use : List Use → Option Use
-first_use [] = None
-first_use (u ∷ us) = Some u

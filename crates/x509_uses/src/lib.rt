@@ -30,7 +30,9 @@ mod visiting;
 pub use certificates::{days_left, days_valid, has_strong_key, hosts};
 pub use elements::{first_identifier, is_known, outline};
 pub use linting::{CriticalExtensions, SerialLength};
-pub use refusals::{Next, fault_in, field_at_fault, first_rule, is_another_structure, next_after};
+pub use refusals::{
+    Next, fault_in, field_at_fault, is_another_structure, next_after, strict_fault_in,
+};
 pub use requests::is_modest;
 pub use revocation::{count_revoked, entry_in_octets, entry_of};
 pub use visiting::{Quiet, VisitCount, walk_list_quietly, walk_quietly};

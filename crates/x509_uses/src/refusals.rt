@@ -4,17 +4,15 @@ ghost use Rattle.std.specs.Prelude.{◌≡◌, ◌↔◌, IfOk, IsTrue, MatchOpt
 ghost use Rattle.x509_der.specs.declared.error.BerError.TheVariants.{InvalidTag};
 ghost use Rattle.x509_der.specs.declared.error.Err.TheVariants as refusals;
 ghost use Rattle.x509_fields.specs.declared.error.X509Error.TheVariants.{Der};
-ghost use Rattle.x509_leniencies.specs.Uses.{leniencies};
-ghost use Rattle.x509_paths.specs.declared.part.Part.TheVariants as parts;
-ghost use Rattle.x509_uses.specs.Conclusions.{IsCertificate, IsFault, IsPathToFault};
-ghost use Rattle.x509_uses.specs.Refusals.{first_use, what_next};
+ghost use Rattle.x509_uses.specs.Conclusions.{IsCertificate, IsFault, IsPathToFault, IsPlainCertificate, IsStrictFault};
+ghost use Rattle.x509_uses.specs.Refusals.{what_next};
 
 use std::alloc::{AllocError, Global};
 use x509_parser::der::{BerError, Err};
 use x509_parser::error::X509Error;
-use x509_parser::leniencies::{LenientUse, leniencies};
-use x509_parser::parse_x509_certificate_located;
+use x509_parser::leniencies::StrictRefusal;
 use x509_parser::paths::{Part, path_to};
+use x509_parser::{parse_x509_certificate_located, parse_x509_certificate_strict_located};
 
 /// What a service does with an input that was refused.
 #[derive(Clone, Copy, Debug, PartialEq, Eq)]
@@ -69,14 +67,14 @@ pub fn field_at_fault(alloc: Global, input: &[u8]) -> Result<Option<String>, All
     Ok(Some(path))
 }
 
-/// The first lenient rule by which the certificate at the front of the bytes is taken, with its octet: why a strict reader refuses it. None
-/// where a strict reader takes it too, and where none stands there.
-pub fn first_rule(alloc: Global, input: &[u8]) -> Result<Option<LenientUse>, AllocError>
-    ensures { IfOk result (λ used. used ≡ first_use (leniencies parts.Certificate input.now)) }
+/// Why a strict reader refuses the bytes, where, and by which lenient rule a reader takes them; None where a certificate stands plainly at
+/// their front.
+pub fn strict_fault_in(alloc: Global, input: &[u8]) -> Result<Option<StrictRefusal>, AllocError>
+    ensures { IfOk result (λ fault. MatchOption fault (IsPlainCertificate input.now) (IsStrictFault input.now)) }
 {
-    let uses = leniencies(alloc, Part::Certificate, input)?;
-    match uses.as_slice() {
-        [first, ..] => Ok(Some(*first)),
-        [] => Ok(None),
+    match parse_x509_certificate_strict_located(alloc, input) {
+        Ok(_) => Ok(None),
+        Err(refusal) if refusal.why.is_out_of_memory() => Err(AllocError),
+        Err(refusal) => Ok(Some(refusal)),
     }
 }

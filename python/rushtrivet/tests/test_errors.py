@@ -54,9 +54,21 @@ class Refusals(unittest.TestCase):
     def test_strict(self) -> None:
         lenient = certificate(serial=b"\0\0\1")
         self.assertEqual(x509.load_certificate(lenient).serial_number, 1)
-        with self.assertRaises(x509.Refused):
+        with self.assertRaises(x509.Refused) as caught:
             x509.load_certificate(lenient, strict=True)
+        refused = caught.exception
+        at = lenient.index(der(2, b"\0\0\1"))
+        self.assertEqual((refused.status, refused.at, refused.rule), (Status.GENERIC, at, "any_serial"))
+        self.assertEqual(str(refused), f"generic error, at octet {at} (tbsCertificate.serialNumber): any_serial")
+        self.assertEqual(pickle.loads(pickle.dumps(refused)).rule, "any_serial")
         self.assertEqual(x509.load_certificate(certificate(), strict=True).serial_number, 1)
+        with self.assertRaises(x509.Refused) as caught:
+            x509.load_certificate(lenient[:-1], strict=True)
+        self.assertIsNone(caught.exception.rule)
+        many = crl([b"\0\0\1"] * 20)
+        with self.assertRaises(x509.Refused) as caught:
+            x509.load_crl(many, strict=True)
+        self.assertEqual((caught.exception.at, caught.exception.rule), (many.index(der(2, b"\0\0\1")), "any_serial"))
 
     def test_pickle(self) -> None:
         refused = x509.Refused(33, "invalid length", 7)

@@ -35,7 +35,8 @@ def line_of(kind: str, data: bytes, strict: bool) -> str:
     try:
         found = load(data, strict=strict)
     except rushtrivet.Refused as refused:
-        return " ".join(map(str, [*words, refused.status, refused.at]))
+        # the call itself tells what strict alone refuses at octet 0
+        return " ".join(map(str, [*words, refused.status, 0 if refused.rule else refused.at]))
     words += [0, 0]
     extensions = []
     if kind != "request":

@@ -3,13 +3,14 @@
 use super::kept;
 use crate::{
     Next, count_revoked, days_left, days_valid, entry_in_octets, entry_of, fault_in,
-    field_at_fault, first_identifier, first_rule, has_strong_key, hosts, is_another_structure,
-    is_known, is_modest, next_after, outline,
+    field_at_fault, first_identifier, has_strong_key, hosts, is_another_structure, is_known,
+    is_modest, next_after, outline, strict_fault_in,
 };
 use std::test::Fail;
 use x509_parser::certification_request::X509CertificationRequest;
-use x509_parser::der::{FromDer, Stop, Tag, UnsignedBytes};
-use x509_parser::leniencies::{Leniency, LenientUse};
+use x509_parser::der::{Err, FromDer, Stop, Tag, UnsignedBytes};
+use x509_parser::error::X509Error;
+use x509_parser::leniencies::{Leniency, StrictRefusal};
 use x509_parser::objects::oid_registry;
 use x509_parser::{parse_x509_certificate, parse_x509_crl};
 
@@ -125,16 +126,19 @@ fn of_a_fault(rt: HostRuntime) -> Result<(), Fail> {
 // A serial of context class, whose element begins at octet 4.
 #[test]
 fn of_a_rule(rt: HostRuntime) -> Result<(), Fail> {
-    let used = first_rule(rt.alloc(), LENIENT)?;
     assert_eq!(rt;
-        used,
-        Some(LenientUse {
+        strict_fault_in(rt.alloc(), LENIENT)?,
+        Some(StrictRefusal {
+            why: Err::Error(X509Error::Generic),
             at: 4,
-            rule: Leniency::AnySerial
+            rule: Some(Leniency::AnySerial)
         })
     );
-    assert_eq!(rt; first_rule(rt.alloc(), HOSTS)?, None);
-    assert_eq!(rt; first_rule(rt.alloc(), LIST)?, None);
+    assert_eq!(rt; strict_fault_in(rt.alloc(), HOSTS)?, None);
+    let Some(refusal) = strict_fault_in(rt.alloc(), LIST)? else {
+        return Err(Fail::from("a list is no certificate"));
+    };
+    assert_eq!(rt; refusal.rule, None);
     Ok(())
 }
 

@@ -642,8 +642,9 @@ class Caller:
         except IndexError:
             return Memory(self._head, self._row, self.room)
 
-    def ask(self, call: Asked) -> Tuple[Numbers, List[Numbers]]:
-        """The struct and the rows that the call writes. Where there was no room for all rows, it is asked once more."""
+    def ask(self, call: Asked, whole: bool = True) -> Tuple[Numbers, List[Numbers]]:
+        """The struct and the rows that the call writes. Where there was no room for all rows, it is asked once more, unless
+        the first will do: whole is false."""
         memory = self.take()
         while True:
             status = call(memory)
@@ -654,6 +655,9 @@ class Caller:
             if self._row:
                 count = _COUNTS.unpack_from(octets)[0] if self._count is None else head[self._count]
             if count <= memory.room:
+                break
+            if not whole:
+                count = memory.room
                 break
             memory = Memory(self._head, self._row, count)
         found: List[Numbers] = []
@@ -849,8 +853,27 @@ def field_path(buffer: Buffer, kind: Kind, at: int) -> str:
     return whole_text(call).decode("utf-8", "backslashreplace")
 
 
+_RULES = Caller(None, LenientUseRow, 8)
+
+
+def rules(buffer: Buffer, kind: Kind, whole: bool = True) -> List[Numbers]:
+    """The octet and the number of each lenient rule that the object of that kind at the front of the octets uses: of all,
+    or of the first alone, eight at most."""
+    _, rows = _RULES.ask(
+        lambda memory: lib.rtv_leniencies(
+            buffer.address, buffer.length, kind, memory.rows, memory.room, memory.counts
+        ),
+        whole,
+    )
+    return rows
+
+
 def placed(refused: Refused, buffer: Buffer, kind: Kind) -> Refused:
-    """The refusal with the path to its octet: of an object of that kind, which was to stand at their front."""
+    """The refusal at its place, of an object of that kind, which was to stand at the front of the octets: what a strict
+    reading alone refuses, at the first rule by which it is taken. With the path that leads there."""
+    if refused.status == Status.GENERIC:
+        for at, rule in rules(buffer, kind, whole=False)[:1]:
+            refused.at, refused.rule = at, rule_word(rule)
     if refused.at is not None:
         refused.path = field_path(buffer, kind, refused.at)
     return refused

@@ -27,7 +27,6 @@ from ._library import (
     Caller,
     KeyInfoStruct,
     Kind,
-    LenientUseRow,
     Numbers,
     Octets,
     RefusedValueRow,
@@ -38,13 +37,13 @@ from ._library import (
     octets,
     report,
     rule_word,
+    rules,
     word,
 )
 from .oid import ObjectIdentifier, PublicKeyAlgorithmOID
 
 _KEY_INFOS = Caller(KeyInfoStruct)
 _RSA_KEYS = Caller(RsaKeyStruct)
-_RULES = Caller(None, LenientUseRow, 8)
 _REFUSED_VALUES = Caller(None, RefusedValueRow, 8)
 _EPOCH = datetime(1970, 1, 1, tzinfo=timezone.utc)
 
@@ -250,13 +249,9 @@ class SignedObject:
 
         It is read once more for them, and for the path of each from its front.
         """
-        buffer, kind = self._buffer, self._kind
-        _, rows = _RULES.ask(
-            lambda memory: lib.rtv_leniencies(
-                buffer.address, buffer.length, kind, memory.rows, memory.room, memory.counts
-            )
+        return tuple(
+            LenientRule(rule_word(rule), at, self.field_path(at)) for at, rule in rules(self._buffer, self._kind)
         )
-        return tuple(LenientRule(rule_word(rule), at, self.field_path(at)) for at, rule in rows)
 
     def refused_values(self) -> Tuple[RefusedValue, ...]:
         """The values of extensions that can't be read, in order: of a list those of its entries too, of a request those

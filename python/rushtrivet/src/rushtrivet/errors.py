@@ -60,6 +60,10 @@ class Refused(ValueError):
     """The names of the fields that lead there, as "tbsCertificate.validity.notAfter", of a certificate, a list or a
     request that was to be loaded; else None."""
 
+    rule: Optional[str] = None
+    """The first lenient rule by which it is taken where it isn't to be loaded strictly, as "any_serial": then `at` is where
+    that is used, and `lenient_rules()` of the object tells all; None where no reader takes it."""
+
     def __init__(self, status: int, word: str, at: Optional[int]) -> None:
         super().__init__(status, word, at)
         self.status = status
@@ -69,7 +73,8 @@ class Refused(ValueError):
     def __str__(self) -> str:
         if self.at is None:
             return self.word
-        return f"{self.word}, at octet {self.at}" + (f" ({self.path})" if self.path else "")
+        place = f"{self.word}, at octet {self.at}" + (f" ({self.path})" if self.path else "")
+        return f"{place}: {self.rule}" if self.rule else place
 
 
 class _OfIdentifier(Exception):
