@@ -1,5 +1,5 @@
 -- What is wrong with extensions (RFC 5280, 4.2).
-use Rattle.std.specs.Prelude.{ℕ, Bool, true, not, ◌&&◌, ◌==◌, List, [], ◌++◌, map, codes}
+use Rattle.std.specs.Prelude.{ℕ, Bool, true, not, ◌&&◌, ◌==◌, List, [], ◌∷◌, ◌++◌, map, codes}
 use Rattle.std.specs.Bool.{beq}
 use Rattle.std.specs.List.{flat_map, list_all}
 use Rattle.std.specs.Option.{is_some}
@@ -7,23 +7,20 @@ use Rattle.x509_general_names.specs.AuthorityKeyIdentifier.{AuthorityKeyIdentifi
 use Rattle.x509_values.specs.Policies.{PolicyValue}
 use Rattle.x509_extensions.specs.Extension.{Extension}
 use Rattle.x509_extensions.specs.Parsed.{Parsed, AuthorityKeyIdentifier, CertificatePolicies, KeyUsage, SubjectAlternativeName}
-use Rattle.x509_validators.specs.Message.{Message, warning_if, error_if}
+use Rattle.x509_validators.specs.Message.{Message}
 use Rattle.x509_validators.specs.AlternativeNames.{names_warnings}
 use Rattle.x509_validators.specs.Duplicates.{repeat_errors, all_distinct}
+use Rattle.x509_validators.specs.Rules.{Row, error_where, told, warning_where}
 
--- an authority key identifier must not be critical (4.2.1.1)
-unfoldable pub critical_errors : Bool → List Message
-critical_errors critical = error_if critical (codes "Extension AKI MUST NOT be critical, but is")
-
--- its issuer and its serial must stand together (4.2.1.1)
+-- its issuer and its serial stand together (4.2.1.1)
 abbrev pub has_one : AuthorityKeyIdentifierValue → Bool
 has_one a = not (beq (is_some a.issuer) (is_some a.serial))
 
-unfoldable pub pair_warnings : AuthorityKeyIdentifierValue → List Message
-pair_warnings a = warning_if (has_one a) (codes "AKI: only one of Issuer and Serial is present")
-
-unfoldable pub key_identifier_messages : Bool → AuthorityKeyIdentifierValue → List Message
-key_identifier_messages critical a = critical_errors critical ++ pair_warnings a
+-- of an authority key identifier, which must not be critical (4.2.1.1)
+abbrev pub key_identifier_rules : Bool → AuthorityKeyIdentifierValue → List Row
+key_identifier_rules critical a =
+    error_where critical (codes "Extension AKI MUST NOT be critical, but is")
+    ∷ warning_where (has_one a) (codes "AKI: only one of Issuer and Serial is present") ∷ []
 
 -- a policy must not stand twice (4.2.1.4)
 abbrev pub policy_ids : List PolicyValue → List (List ℕ)
@@ -33,14 +30,14 @@ unfoldable pub policy_errors : List PolicyValue → List Message
 policy_errors policies = repeat_errors (codes "Certificate Policies: duplicate policy ") (policy_ids policies)
 
 -- at least one bit of a key usage must be set (4.2.1.3)
-unfoldable pub usage_errors : ℕ → List Message
-usage_errors flags = error_if (flags == 0) (codes "KeyUsage: all flags are set to 0")
+abbrev pub usage_rules : ℕ → List Row
+usage_rules flags = error_where (flags == 0) (codes "KeyUsage: all flags are set to 0") ∷ []
 
 -- by what the value of an extension says, which may be critical
 unfoldable pub value_messages : Bool → Parsed → List Message
-value_messages critical (AuthorityKeyIdentifier a) = key_identifier_messages critical a
+value_messages critical (AuthorityKeyIdentifier a) = told (key_identifier_rules critical a)
 value_messages critical (CertificatePolicies policies) = policy_errors policies
-value_messages critical (KeyUsage flags) = usage_errors flags
+value_messages critical (KeyUsage flags) = told (usage_rules flags)
 value_messages critical (SubjectAlternativeName names) = names_warnings names
 value_messages critical _ = []
 

@@ -5,6 +5,7 @@ pub mod Extensions
 pub mod Names
 pub mod PublicKey
 pub mod Readings
+pub mod Rules
 pub mod Serial
 pub mod SignedPart
 pub mod Times

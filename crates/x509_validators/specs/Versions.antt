@@ -3,25 +3,25 @@ use Rattle.std.specs.Prelude.{ℕ, Bool, not, ◌&&◌, ◌||◌, ◌==◌, List
 use Rattle.std.specs.Option.{is_some}
 use Rattle.x509_der.specs.Primitives.{Bits}
 use Rattle.x509_extensions.specs.Extension.{Extension}
-use Rattle.x509_validators.specs.Message.{Message, warning_if, error_if}
+use Rattle.x509_validators.specs.Rules.{Row, error_where, warning_where}
 
 abbrev pub is_version : ℕ → Bool
 is_version version = nat_lt version 3
 
-unfoldable pub version_errors : ℕ → List Message
-version_errors version = error_if (not (is_version version)) (codes "Invalid version")
+abbrev pub version_rule : ℕ → Row
+version_rule version = error_where (not (is_version version)) (codes "Invalid version")
 
 -- a unique identifier in version 1
 abbrev pub is_too_early : ℕ → Option Bits → Bool
 is_too_early version uid = version == 0 && is_some uid
 
 -- by the name of the field
-unfoldable pub uid_warnings : List ℕ → ℕ → Option Bits → List Message
-uid_warnings field version uid = warning_if (is_too_early version uid) (field ++ codes " present but version 1")
+abbrev pub uid_rule : List ℕ → ℕ → Option Bits → Row
+uid_rule field version uid = warning_where (is_too_early version uid) (field ++ codes " present but version 1")
 
 -- extensions in version 3 alone
 abbrev pub may_have : ℕ → List Extension → Bool
 may_have version extensions = version == 2 || length extensions == 0
 
-unfoldable pub presence_errors : Bool → List Message
-presence_errors allowed = error_if (not allowed) (codes "Extensions present but version is not 3")
+abbrev pub presence_rule : ℕ → List Extension → Row
+presence_rule version extensions = error_where (not (may_have version extensions)) (codes "Extensions present but version is not 3")

@@ -10,13 +10,15 @@ ghost use Rattle.x509_validators.specs.Message.{Logs};
 ghost use Rattle.x509_values.specs.KeyUsage.{key_usage_of};
 ghost use Rattle.x509_values.specs.Policies.{policy_of};
 ghost use Rattle.x509_validators.specs.Duplicates.{all_distinct};
-ghost use Rattle.x509_validators.specs.Extensions.{critical_errors, has_one, pair_warnings, key_identifier_messages, policy_ids, policy_errors};
-ghost use Rattle.x509_validators.specs.Extensions.{usage_errors, value_messages, is_sound_value, extension_ids, extension_messages};
+ghost use Rattle.x509_validators.specs.Rules.{row_of};
+ghost use Rattle.x509_validators.specs.Extensions.{has_one, key_identifier_rules, policy_ids, policy_errors};
+ghost use Rattle.x509_validators.specs.Extensions.{usage_rules, value_messages, is_sound_value, extension_ids, extension_messages};
 ghost use Rattle.x509_validators.specs.Extensions.{is_sound_extension, extension_errors, extensions_messages, are_sound};
 
 use crate::alternative_names::check_names;
 use crate::duplicates::{Identified, check_duplicates};
-use crate::logger::{Logger, log_error_if, log_warning_if};
+use crate::logger::Logger;
+use crate::rule::{Rule, error_where, log_broken, warning_where};
 use crate::validator::Validator;
 use std::alloc::Global;
 use x509_der::Oid;
@@ -136,14 +138,14 @@ fn check_value<L: Logger>(
 {
     match value {
         ParsedExtension::AuthorityKeyIdentifier(id) => {
-            check_key_identifier(alloc, critical, id, logger)?;
+            log_broken(alloc, &key_identifier_rules(critical, id), logger)?;
             Ok(true)
         }
         ParsedExtension::CertificatePolicies(policies) => {
             check_policies(alloc, policies.as_slice(), logger)
         }
         ParsedExtension::KeyUsage(usage) => {
-            check_usage(alloc, usage, logger)?;
+            log_broken(alloc, &usage_rules(usage), logger)?;
             Ok(true)
         }
         ParsedExtension::SubjectAlternativeName(names) => {
@@ -169,59 +171,21 @@ fn check_policies<L: Logger>(
     check_duplicates(alloc, label, policies, logger)
 }
 
-#[tactic(auto, unfolding(crate::specs::Extensions::usage_errors))]
-fn check_usage<L: Logger>(alloc: Global, usage: &KeyUsage, logger: &mut L) -> Result<(), X509Error>
-    requires { L.can_log logger.old }
-    ensures can { L.can_log logger.new }
-    ensures logs { Logs L.step logger.old (usage_errors (key_usage_of usage.now)) tt result logger.new }
+// Of an authority key identifier.
+fn key_identifier_rules(critical: bool, id: &AuthorityKeyIdentifier<'_>) -> [Rule<'static>; 2]
+    ensures { map row_of result ≡ key_identifier_rules critical (authority_key_identifier_of id.now) }
 {
-    let found = usage.flags == 0;
-    log_error_if(alloc, logger, found, "KeyUsage: all flags are set to 0")
+    [
+        error_where(critical, "Extension AKI MUST NOT be critical, but is"),
+        warning_where(has_one(id), "AKI: only one of Issuer and Serial is present"),
+    ]
 }
 
-#[tactic(auto, using(crate::proofs::Logs::logging), unfolding(crate::specs::Extensions::key_identifier_messages))]
-fn check_key_identifier<L: Logger>(
-    alloc: Global,
-    critical: bool,
-    id: &AuthorityKeyIdentifier<'_>,
-    logger: &mut L,
-) -> Result<(), X509Error>
-    requires { L.can_log logger.old }
-    ensures can { L.can_log logger.new }
-    ensures logs { Logs L.step logger.old (key_identifier_messages critical (authority_key_identifier_of id.now)) tt result logger.new }
+// Of a key usage.
+fn usage_rules(usage: &KeyUsage) -> [Rule<'static>; 1]
+    ensures { map row_of result ≡ usage_rules (key_usage_of usage.now) }
 {
-    check_critical(alloc, critical, logger)?;
-    check_pair(alloc, id, logger)?;
-    Ok(())
-}
-
-#[tactic(auto, unfolding(crate::specs::Extensions::critical_errors))]
-fn check_critical<L: Logger>(alloc: Global, critical: bool, logger: &mut L) -> Result<(), X509Error>
-    requires { L.can_log logger.old }
-    ensures can { L.can_log logger.new }
-    ensures logs { Logs L.step logger.old (critical_errors critical) tt result logger.new }
-{
-    log_error_if(
-        alloc,
-        logger,
-        critical,
-        "Extension AKI MUST NOT be critical, but is",
-    )
-}
-
-#[tactic(auto, unfolding(crate::specs::Extensions::pair_warnings))]
-fn check_pair<L: Logger>(
-    alloc: Global,
-    id: &AuthorityKeyIdentifier<'_>,
-    logger: &mut L,
-) -> Result<(), X509Error>
-    requires { L.can_log logger.old }
-    ensures can { L.can_log logger.new }
-    ensures logs { Logs L.step logger.old (pair_warnings (authority_key_identifier_of id.now)) tt result logger.new }
-{
-    let alone = has_one(id);
-    let message = "AKI: only one of Issuer and Serial is present";
-    log_warning_if(alloc, logger, alone, message)
+    [error_where(usage.flags == 0, "KeyUsage: all flags are set to 0")]
 }
 
 // Whether one of issuer and serial is present, and the other isn't.

@@ -14,6 +14,7 @@ mod name;
 mod one_call;
 mod public_key;
 mod readings;
+mod rule;
 mod serial;
 mod stderr_logger;
 mod structure;

@@ -1,23 +1,26 @@
 //! The structure of certificates.
 
+ghost use Rattle.std.specs.Prelude.{◌≡◌, map};
 ghost use Rattle.x509_certs.specs.TbsCertificate.{tbs_of};
+ghost use Rattle.x509_extensions.specs.Extension.{extension_of};
 ghost use Rattle.x509_validators.specs.Message.{Logs};
-ghost use Rattle.x509_validators.specs.Serial.{serial_messages, is_there};
-ghost use Rattle.x509_validators.specs.SignedPart.{number_messages, are_numbers_sound, party_messages, is_key_sound, field_messages};
-ghost use Rattle.x509_validators.specs.SignedPart.{are_fields_sound, uids_warnings, extension_part_messages, are_extensions_sound};
-ghost use Rattle.x509_validators.specs.SignedPart.{signed_part_messages, is_signed_part_sound};
+ghost use Rattle.x509_validators.specs.Rules.{row_of};
+ghost use Rattle.x509_validators.specs.SignedPart.{are_fields_sound, are_numbers_sound, are_readable, extension_part_messages, field_messages};
+ghost use Rattle.x509_validators.specs.SignedPart.{is_key_sound, is_signed_part_sound, number_rules, party_messages, period_rules, signed_part_messages};
 
 use crate::alternative_names::check_names_in;
 use crate::logger::Logger;
 use crate::name::X509NameStructureValidator;
 use crate::public_key::X509PublicKeyValidator;
 use crate::readings::check_readings;
-use crate::serial::check_serial;
-use crate::times::check_validity;
+use crate::rule::{Rule, log_broken};
+use crate::serial::{is_there, serial_rules};
+use crate::times::{generalized_rule, utc_rule};
 use crate::validator::Validator;
-use crate::versions::{check_presence, check_unique_id, check_version};
+use crate::versions::{is_version, may_have, presence_rule, uid_rule, version_rule};
 use std::alloc::Global;
 use x509_certs::{TbsCertificate, X509Certificate};
+use x509_extensions::X509Extension;
 use x509_fields::X509Error;
 
 /// Tells what is wrong with the structure of the part of a certificate that is signed (RFC 5280, section 4.1.2):
@@ -86,12 +89,11 @@ fn check_signed_part<L: Logger>(
     ensures logs { Logs L.step logger.old (signed_part_messages (tbs_of tbs.now)) (is_signed_part_sound (tbs_of tbs.now)) result logger.new }
 {
     let fields = check_fields(alloc, tbs, logger)?;
-    check_unique_ids(alloc, tbs, logger)?;
-    let extensions = check_extension_part(alloc, tbs, logger)?;
-    Ok(fields & extensions)
+    let readable = check_extension_part(alloc, tbs.extensions(), logger)?;
+    Ok(fields & readable)
 }
 
-// The fields that every certificate has.
+// The fields, and what may be there by the version.
 #[tactic(auto, using(crate::proofs::Logs::logging), unfolding(crate::specs::SignedPart::field_messages))]
 fn check_fields<L: Logger>(
     alloc: Global,
@@ -102,38 +104,41 @@ fn check_fields<L: Logger>(
     ensures can { L.can_log logger.new }
     ensures logs { Logs L.step logger.old (field_messages (tbs_of tbs.now)) (are_fields_sound (tbs_of tbs.now)) result logger.new }
 {
-    let numbers = check_numbers(alloc, tbs, logger)?;
+    log_broken(alloc, &number_rules(tbs), logger)?;
     let key = check_parties(alloc, tbs, logger)?;
-    check_validity(alloc, &tbs.validity, logger)?;
-    Ok(numbers & key)
+    log_broken(alloc, &period_rules(tbs), logger)?;
+    Ok(are_numbers_sound(tbs) & key)
 }
 
 // Version and serial.
-#[tactic(auto, using(crate::proofs::Logs::logging), unfolding(crate::specs::SignedPart::number_messages))]
-fn check_numbers<L: Logger>(
-    alloc: Global,
-    tbs: &TbsCertificate<'_>,
-    logger: &mut L,
-) -> Result<bool, X509Error>
-    requires { L.can_log logger.old }
-    ensures can { L.can_log logger.new }
-    ensures logs { Logs L.step logger.old (number_messages (tbs_of tbs.now)) (are_numbers_sound (tbs_of tbs.now)) result logger.new }
+fn number_rules(tbs: &TbsCertificate<'_>) -> [Rule<'static>; 4]
+    ensures { map row_of result ≡ number_rules (tbs_of tbs.now) }
 {
-    let version = check_version(alloc, tbs.version, logger)?;
-    let serial = check_raw_serial(alloc, tbs, logger)?;
-    Ok(version & serial)
+    let [absence, sign, zeros] = serial_rules(tbs.raw_serial());
+    [version_rule(tbs.version), absence, sign, zeros]
 }
 
-fn check_raw_serial<L: Logger>(
-    alloc: Global,
-    tbs: &TbsCertificate<'_>,
-    logger: &mut L,
-) -> Result<bool, X509Error>
-    requires { L.can_log logger.old }
-    ensures can { L.can_log logger.new }
-    ensures logs { Logs L.step logger.old (serial_messages (tbs_of tbs.now).raw_serial) (is_there (tbs_of tbs.now).raw_serial) result logger.new }
+// Validity, unique identifiers, and whether extensions may be there.
+fn period_rules(tbs: &TbsCertificate<'_>) -> [Rule<'static>; 7]
+    ensures { map row_of result ≡ period_rules (tbs_of tbs.now) }
 {
-    check_serial(alloc, tbs.raw_serial(), logger)
+    let validity = &tbs.validity;
+    [
+        utc_rule("notBefore", &validity.not_before),
+        generalized_rule("notBefore", &validity.not_before),
+        utc_rule("notAfter", &validity.not_after),
+        generalized_rule("notAfter", &validity.not_after),
+        uid_rule("issuerUniqueID", tbs.version, &tbs.issuer_uid),
+        uid_rule("subjectUniqueID", tbs.version, &tbs.subject_uid),
+        presence_rule(tbs.version, tbs.extensions()),
+    ]
+}
+
+// There are such a version, a serial, and extensions in the third version alone.
+fn are_numbers_sound(tbs: &TbsCertificate<'_>) -> bool
+    ensures { result ≡ are_numbers_sound (tbs_of tbs.now) }
+{
+    is_version(tbs.version) && is_there(tbs.raw_serial()) && may_have(tbs.version, tbs.extensions())
 }
 
 // Subject, issuer and key.
@@ -153,46 +158,19 @@ fn check_parties<L: Logger>(
     Ok(key)
 }
 
-#[tactic(auto, using(crate::proofs::Logs::logging), unfolding(crate::specs::SignedPart::uids_warnings))]
-fn check_unique_ids<L: Logger>(
-    alloc: Global,
-    tbs: &TbsCertificate<'_>,
-    logger: &mut L,
-) -> Result<(), X509Error>
-    requires { L.can_log logger.old }
-    ensures can { L.can_log logger.new }
-    ensures logs { Logs L.step logger.old (uids_warnings (tbs_of tbs.now)) tt result logger.new }
-{
-    check_unique_id(
-        alloc,
-        "issuerUniqueID",
-        tbs.version,
-        &tbs.issuer_uid,
-        logger,
-    )?;
-    check_unique_id(
-        alloc,
-        "subjectUniqueID",
-        tbs.version,
-        &tbs.subject_uid,
-        logger,
-    )?;
-    Ok(())
-}
-
+// How each extension was read, and then the other names of the subject.
 #[tactic(auto, using(crate::proofs::Logs::logging), unfolding(crate::specs::SignedPart::extension_part_messages))]
 fn check_extension_part<L: Logger>(
     alloc: Global,
-    tbs: &TbsCertificate<'_>,
+    extensions: &[X509Extension<'_>],
     logger: &mut L,
 ) -> Result<bool, X509Error>
     requires { L.can_log logger.old }
     ensures can { L.can_log logger.new }
-    ensures logs { Logs L.step logger.old (extension_part_messages (tbs_of tbs.now)) (are_extensions_sound (tbs_of tbs.now)) result logger.new }
+    ensures logs { Logs L.step logger.old (extension_part_messages (map extension_of extensions.now))
+        (are_readable (map extension_of extensions.now)) result logger.new }
 {
-    let extensions = tbs.extensions();
-    let allowed = check_presence(alloc, tbs.version, extensions, logger)?;
     let readable = check_readings(alloc, extensions, logger)?;
     check_names_in(alloc, extensions, logger)?;
-    Ok(allowed & readable)
+    Ok(readable)
 }
