@@ -1,13 +1,19 @@
 -- Certificates as C sees them.
 use Rattle.std.specs.Prelude.{◌≡◌, ℕ, List, length}
+use Rattle.std.specs.Borrow.{Bor}
 use Rattle.x509_keys.specs.PublicKey.{key_in}
-use Rattle.x509_certs.specs.Certificate.{Certificate}
+use Rattle.x509_certs.specs.Certificate.{Certificate, certificate_of}
+use Rattle.x509_certs.specs.declared.certificate.X509Certificate.{X509Certificate}
 use Rattle.x509_c.specs.declared.certificate.CertificateRow.{CertificateRow}
 use Rattle.x509_c.specs.declared.extensions.ExtensionRow.{ExtensionRow}
 use Rattle.x509_c.specs.Extensions.{IsExtensionRow}
 use Rattle.x509_c.specs.Keys.{size_in}
 use Rattle.x509_c.specs.Rows.{RowsShow}
 use Rattle.x509_c.specs.Seconds.{AreSecondsOf}
+
+-- the octets behind a certificate, and the certificate
+abbrev pub read_of : Bor (List ℕ) × X509Certificate → List ℕ × Certificate
+read_of x = (x.0.now, certificate_of x.1)
 
 pub record IsCertificateRow (row : CertificateRow) (c : Certificate) (behind : List ℕ) : Type 0 where
   pub whole : row.whole.now ≡ c.raw

@@ -4,7 +4,7 @@ use Rattle.json.specs.Json.{Json}
 use Rattle.json.specs.Print.{print}
 use Rattle.x509_report_lines.specs.Says.{written}
 use Rattle.x509_report_objects.specs.Places.{Found, Wishes}
-use Rattle.x509_report_objects.specs.declared.objects.Kind.{Kind}
+use Rattle.x509_report_objects.specs.declared.kind.Kind.{Kind}
 use Rattle.x509_c.specs.Text.{ShowsText}
 
 -- what is wanted by a kind's number

@@ -1,10 +1,10 @@
 //! Certificates.
 
-ghost use Rattle.std.specs.Prelude.{◌≡◌, true};
+ghost use Rattle.std.specs.Prelude.{◌≡◌, true, Err as Refused};
 ghost use Rattle.x509_der.specs.Promises.{ReadsWhere};
 ghost use Rattle.x509_fields.specs.Errors.{is_x509_memory};
-ghost use Rattle.x509_certs.specs.Certificate.{certificate_of, certificate_by};
-ghost use Rattle.x509_c.specs.Certificates.{IsCertificateRow, ShowsCertificate};
+ghost use Rattle.x509_certs.specs.Certificate.{certificate_of, certificate_by, is_deep, is_strict};
+ghost use Rattle.x509_c.specs.Certificates.{IsCertificateRow, ShowsCertificate, read_of};
 ghost use Rattle.x509_c.specs.Tells.{Tells, Done};
 
 use crate::extensions::ExtensionRow;
@@ -14,7 +14,7 @@ use crate::status::{OK, refused};
 use crate::times::seconds;
 use std::alloc::Global;
 use x509_certs::{X509Certificate, X509CertificateParser};
-use x509_der::{Located, Reader};
+use x509_der::{Err, Located, Reader};
 use x509_fields::X509Error;
 
 /// What a certificate says: `rtv_certificate` of rushtrivet.h.
@@ -79,19 +79,38 @@ fn certificate_row<'a>(certificate: &X509Certificate<'a>, rest: &'a [u8]) -> Cer
     }
 }
 
-/// Reads a certificate, by these settings.
-fn read<'a>(
-    alloc: Global,
-    der: &'a [u8],
-    deep: bool,
-    strict: bool,
-) -> Result<(&'a [u8], X509Certificate<'a>), Located<X509Error>>
-    ensures { ReadsWhere is_x509_memory true (λ x. (x.0.now, certificate_of x.1)) (certificate_by deep strict) der.now result }
+/// The reader by these settings.
+fn parser(deep: bool, strict: bool) -> X509CertificateParser
+    ensures deep { is_deep result ≡ deep }
+    ensures strict { is_strict result ≡ strict }
 {
     X509CertificateParser::new()
         .with_deep_parse_extensions(deep)
         .with_strict(strict)
-        .parse_located(alloc, der)
+}
+
+/// Why a certificate is refused, with the octet of its place, which a second reading finds; of want of memory there is none.
+///
+/// Whatever is told of a refusal is read as where its place is asked for. So what takes a certificate is a reader with one caller in this
+/// library, and LLVM writes all of it into that.
+#[inline(never)]
+fn located(
+    alloc: Global,
+    parser: X509CertificateParser,
+    der: &[u8],
+    why: Err<X509Error>,
+) -> Located<X509Error>
+    ensures { ReadsWhere is_x509_memory true read_of (certificate_by (is_deep parser) (is_strict parser)) der.now (Refused result) }
+{
+    if !why.is_out_of_memory() {
+        if let Err(refusal) = parser.parse_located(alloc, der) {
+            return refusal;
+        }
+    }
+    Located {
+        why: Err::Failure(X509Error::OutOfMemory),
+        at: 0,
+    }
 }
 
 /// Reads the certificate at the front of the buffer. The extensions are written in order, as many as there are rows; the certificate
@@ -112,12 +131,13 @@ pub extern "C" fn rtv_read_certificate<'a>(
         ((certificate.new ≡ certificate.old) × (extensions.new ≡ extensions.old))
         at.old at.new result }
 {
-    match read(alloc, der, deep, strict) {
+    let parser = parser(deep, strict);
+    match parser.parse(alloc, der) {
         Ok((rest, read)) => {
             *certificate = certificate_row(&read, rest);
             put_rows(extensions, read.extensions());
             OK
         }
-        Err(refusal) => refused(refusal, at),
+        Err(why) => refused(located(alloc, parser, der, why), at),
     }
 }

@@ -119,4 +119,20 @@ pub trait FromDer<'a, E: ReadError>: Sized {
             Err(e) => Err(e.located(i.len())),
         }
     }
+
+    /// Reads the element at the front as [`FromDer::from_der_located`] does, and tells whether it stands plainly.
+    final fn from_der_marked_located(
+        alloc: Global,
+        i: &'a [u8],
+    ) -> Result<(&'a [u8], Self, bool), Located<E>>
+        ensures exact { ReadsWhere E.is_memory takes_memory (λ x. (x.0.now, view x.1)) plan i.now result }
+        ensures marks { IfOk result (λ x. x.2 ≡ plan.marks i.now) }
+    {
+        let mut tries = Tries::new();
+        let place = Place::look_before(&mut tries, i, 0usize);
+        match Self::read_at(alloc, &mut tries, &place) {
+            Ok((value, plain)) => Ok((place.rest(), value, plain)),
+            Err(refused) => Err(refused.located(i.len())),
+        }
+    }
 }

@@ -11,11 +11,11 @@ use Rattle.x509_fields.specs.declared.error.X509Error.TheVariants.{Generic}
 use Rattle.x509_fields.specs.Errors.{is_x509_memory}
 use Rattle.x509_fields.specs.Fields.{Field}
 use Rattle.x509_paths.specs.declared.part.Part.{Part}
-use Rattle.x509_leniencies.specs.declared.judged.Judged.TheVariants.{Lenient}
+use Rattle.x509_leniencies.specs.declared.judged.Judged.TheVariants.{Absent, Lenient}
 use Rattle.x509_leniencies.specs.declared.strict.StrictRefusal.{StrictRefusal}
 use Rattle.x509_leniencies.specs.Judgements.{judged_by, judged_with, marked, part_judged}
 use Rattle.x509_leniencies.specs.StrictRefusals.{ReadsPlainly, StandsBy, first_use, placed_by}
-use Rattle.x509_leniencies.specs.Uses.{Use, leniencies, some_leniently}
+use Rattle.x509_leniencies.specs.Uses.{Use, deepest, inside, leniencies, part_rule, some_leniently, told}
 
 none_used : (us : List Use) → first_use us ≡ None → us ≡ []
 none_used [] is = refl
@@ -43,6 +43,22 @@ by_grammar p agrees marks object octets k is none why left (inr t) =
     let read : p.read octets ≡ got t.0 t.1 = agrees.complete octets t.0 t.1 k t.2 in
     let unmarked : p.marks octets ≡ false = plain_or_lenient p marks octets t.0 t.1 (p.marks octets) refl k read t.3 in
     absurd (no_length (leniencies object octets) (none_used (leniencies object octets) none) (some_leniently object octets (is ∙ lenient p octets t.0 t.1 read unmarked)))
+
+-- what no reader takes uses no rule
+unused : (object : Part) (octets : List ℕ) → part_judged object octets octets ≡ Absent → leniencies object octets ≡ []
+unused object octets absent = ap (λ j. told (part_rule object) j 0 (inside deepest object 0 octets)) absent
+
+no_first : (u : Use) → None ≡ Some u → ⊥
+no_first u is = absurd cc
+
+-- where one is used, a strict reader refuses what is taken
+pub for_a_rule : {A : Type 0} (p : Field A) → Agrees p → (object : Part) (octets : List ℕ) → IsBytes octets → part_judged object octets octets ≡ judged_by p octets → (u : Use) → first_use (leniencies object octets) ≡ Some u
+    → (why : Refusal X509Error) (left : ℕ) → (plain_only (Error Generic) p).Refuses octets why left → why ≡ Error Generic
+for_a_rule p agrees object octets k is u used why left (inl h) =
+    let read : p.read octets ≡ Err why = agrees.refusal octets why left k h in
+    let none = unused object octets (is ∙ ap (λ r. judged_with r (p.marks octets)) read) in
+    absurd (no_first u (sym (ap first_use none) ∙ used))
+for_a_rule p agrees object octets k is u used why left (inr t) = sym t.4
 
 -- ---- want of memory in place of a refusal
 
@@ -89,11 +105,14 @@ module _ {A X : Type 0} (view : X → List ℕ × A) (p : Field A) (object : Par
         placed = λ _. subst (λ u. StandsBy p octets u (placed_by refused None)) (sym none) (refl, (place.0, by_grammar p agrees marks object octets k is none refused.why place.0 place.1, place.2));
         memory = λ _. refl;
       }
-  refused_by agrees marks k is refused (Some u) used own h = record {
-    exact = h.reads;
-    placed = λ _. subst (λ v. StandsBy p octets v (placed_by refused (Some u))) (sym used) (refl, refl);
-    memory = λ wants. absurd (clash (is_excused is_x509_memory true refused.why) wants own);
-  }
+  refused_by agrees marks k is refused (Some u) used own h =
+      let place = h.located own in
+      let generic = for_a_rule p agrees object octets k is u used refused.why place.0 place.1 in
+      record {
+        exact = h.reads;
+        placed = λ _. subst (λ v. StandsBy p octets v (placed_by refused (Some u))) (sym used) (refl, generic, refl);
+        memory = λ wants. absurd (clash (is_excused is_x509_memory true refused.why) wants own);
+      }
 
   refused_or_memory : Agrees p → Marks Anywhere p → IsBytes octets → part_judged object octets octets ≡ judged_by p octets → (refused : Located X509Error) (e : StrictRefusal)
       → is_excused is_x509_memory true refused.why ≡ false → Strictly true (Err refused) → (e ≡ placed_by refused (first_use (leniencies object octets))) ⊎ ((is_excused is_x509_memory true e.why ≡ true) × (e.rule ≡ None))

@@ -24,10 +24,10 @@ abbrev pub placed_by : Located X509Error → Option Use → StrictRefusal
 placed_by refused None = record { why = refused.why; at = refused.at; rule = None }
 placed_by refused (Some u) = record { why = refused.why; at = u.at; rule = Some u.rule }
 
--- It stands at the first rule, with that rule; where none is used, at the place at which the grammar refuses the octets.
+-- It is a generic error at the first rule, with that rule; where none is used, the grammar's own, at the place at which it refuses the octets.
 abbrev pub StandsBy : {A : Type 0} → Field A → List ℕ → Option Use → StrictRefusal → Type 0
 StandsBy p octets None e = (e.rule ≡ None) × ((left : ℕ) × p.Refuses octets e.why left × (e.at + left ≡ length octets))
-StandsBy p octets (Some u) e = (e.rule ≡ Some u.rule) × (e.at ≡ u.at)
+StandsBy p octets (Some u) e = (e.rule ≡ Some u.rule) × (e.why ≡ Error Generic) × (e.at ≡ u.at)
 
 -- a refusal without its place
 abbrev pub why_alone : {X : Type 0} → Result X StrictRefusal → Result X (Refusal X509Error)

@@ -62,9 +62,9 @@ fn judge_as<'a, E: ReadError, T: FromDer<'a, E> + Drop>(
 ) -> Result<Judged, AllocError>
     ensures { MatchResult result (λ j. j ≡ judged_by T.plan place.now) (λ _. ⊤) }
 {
-    match T::read_marked(alloc, &mut Tries::new(), place) {
+    match T::from_der_marked_located(alloc, place) {
         Ok((_, _value, plain)) => Ok(marked(plain)),
-        Err(refusal) if refusal.is_out_of_memory() => Err(AllocError),
+        Err(refusal) if refusal.why.is_out_of_memory() => Err(AllocError),
         Err(_) => Ok(Judged::Absent),
     }
 }

@@ -107,8 +107,8 @@ fn read_plainly<'a, T: FromDer<'a, X509Error> + Drop>(
 }
 
 /// The same as [`parse_x509_certificate_strict`](x509_certs::parse_x509_certificate_strict); a refusal has its octet, and the lenient rule
-/// by which [`parse_x509_certificate`](x509_certs::parse_x509_certificate) takes the certificate. What is taken is read once, what is
-/// refused twice.
+/// by which [`parse_x509_certificate`](x509_certs::parse_x509_certificate) takes the certificate. What is taken is read once; of what is
+/// refused, the rule is looked for in a second reading, which reads parts once more that don't stand plainly.
 ///
 /// # Errors
 ///

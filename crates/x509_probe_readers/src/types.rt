@@ -67,7 +67,7 @@ fn put_others(out: &mut Answer, first: &Answer, second: &Answer) {
 enum How {
     /// By `read_marked`, `read` and `from_der`.
     Counted,
-    /// By `from_der_located`.
+    /// By `from_der_located` and `from_der_marked_located`.
     Located,
 }
 
@@ -84,11 +84,60 @@ fn reading<'a, E: fmt::Debug + ReadError, T: FromDer<'a, E> + Show>(i: &'a [u8],
     put_others(out, &first, &second);
 }
 
+// Whether what was answered with a mark is the same, with the mark of `read_marked`.
+fn put_marked_again(out: &mut Answer, again: &Answer, mark: Option<bool>, wanted: Option<bool>) {
+    if again.is_stopped() {
+        out.stop();
+    }
+    if out.as_str() != again.as_str() || mark != wanted {
+        out.add(" MARKED ");
+        out.add(again.as_str());
+    }
+}
+
+// The mark of `read_marked`, where it takes the input.
+fn mark_of<'a, E: ReadError, T: FromDer<'a, E> + Drop>(
+    out: &mut Answer,
+    i: &'a [u8],
+) -> Option<bool> {
+    match T::read_marked(out.alloc(), &mut Tries::new(), i) {
+        Ok((_, _value, plain)) => Some(plain),
+        Err(refusal) => {
+            if refusal.is_out_of_memory() {
+                out.stop();
+            }
+            None
+        }
+    }
+}
+
+// By `from_der_located`; a `from_der_marked_located` that answers otherwise shows.
+macro_rules! locating {
+    ($put:ident, $error:ty, $type:ty, $input:ident, $out:ident) => {
+        let alloc = $out.alloc();
+        $put($out, $input, <$type>::from_der_located(alloc, $input));
+        let mut mark = None;
+        let marked = match <$type>::from_der_marked_located(alloc, $input) {
+            Ok((rest, value, plain)) => {
+                mark = Some(plain);
+                Ok((rest, value))
+            }
+            Err(refusal) => Err(refusal),
+        };
+        let mut again = Answer::new(alloc);
+        $put(&mut again, $input, marked);
+        let wanted = mark_of::<$error, $type>($out, $input);
+        put_marked_again($out, &again, mark, wanted);
+    };
+}
+
 // A type whose errors are those of fields.
 fn field<'a, T: FromDer<'a, X509Error> + Show>(how: How, i: &'a [u8], out: &mut Answer) {
     match how {
         How::Counted => reading::<X509Error, T>(i, out),
-        How::Located => put_located(out, i, T::from_der_located(out.alloc(), i)),
+        How::Located => {
+            locating!(put_located, X509Error, T, i, out);
+        }
     }
 }
 
@@ -96,7 +145,9 @@ fn field<'a, T: FromDer<'a, X509Error> + Show>(how: How, i: &'a [u8], out: &mut 
 fn element<'a, T: FromDer<'a, BerError> + Show>(how: How, i: &'a [u8], out: &mut Answer) {
     match how {
         How::Counted => reading::<BerError, T>(i, out),
-        How::Located => put_located_element(out, i, T::from_der_located(out.alloc(), i)),
+        How::Located => {
+            locating!(put_located_element, BerError, T, i, out);
+        }
     }
 }
 

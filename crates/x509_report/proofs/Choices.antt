@@ -8,7 +8,7 @@ use Rattle.x509_lists.specs.TbsCertList.{TbsList}
 use Rattle.x509_fields.specs.Signed.{Signed}
 use Rattle.x509_report_lines.specs.Blocks.{Pem, blocks_of}
 use Rattle.x509_report_objects.specs.Places.{Found}
-use Rattle.x509_report_objects.specs.declared.objects.Kind.{Kind}
+use Rattle.x509_report_objects.specs.declared.kind.Kind.{Kind}
 use Rattle.x509_report.specs.Files.{Task, block_told, blocks_told, choice, der_told, failed, is_empty, may_be_der, neither_told, other_told, kind_told, skipped, symbols_told, whole_told}
 use Rattle.x509_report.specs.Labels.{kind_in, label_text, wants_any}
 use Rattle.x509_report.specs.Objects.{Asks, entries_of, entry_lines, fingerprint_of, list_lines}

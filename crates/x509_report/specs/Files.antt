@@ -7,7 +7,7 @@ use Rattle.x509_report_lines.specs.Blocks.{Pem, blocks_of}
 use Rattle.x509_report_lines.specs.Elements.{IsSplit}
 use Rattle.x509_report_objects.specs.Objects.{failed_report, skipped_report}
 use Rattle.x509_report_objects.specs.Places.{Found}
-use Rattle.x509_report_objects.specs.declared.objects.Kind.{Kind}
+use Rattle.x509_report_objects.specs.declared.kind.Kind.{Kind}
 use Rattle.x509_report.specs.Labels.{kind_in, label_text, only, wants_any}
 use Rattle.x509_report.specs.Objects.{Asks, asks_of, lines_of_object}
 use Rattle.x509_report.specs.Told.{Told, WritesFront, both, nothing, one, text}

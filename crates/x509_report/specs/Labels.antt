@@ -2,8 +2,8 @@
 use Rattle.std.specs.Prelude.{ℕ, List, codes, Bool, false, ◌||◌, Option, Some, None, if◌then◌else◌}
 use Rattle.std.specs.Str.{bytes_eq, is_utf8}
 use Rattle.x509_report_objects.specs.Places.{Wishes}
-use Rattle.x509_report_objects.specs.declared.objects.Kind.{Kind}
-use Rattle.x509_report_objects.specs.declared.objects.Kind.TheVariants as kinds
+use Rattle.x509_report_objects.specs.declared.kind.Kind.{Kind}
+use Rattle.x509_report_objects.specs.declared.kind.Kind.TheVariants as kinds
 
 -- a label that is no text tells nothing
 abbrev pub label_text : List ℕ → Option (List ℕ)

@@ -13,8 +13,8 @@ use Rattle.x509_report_objects.specs.Attempts.{wishes_of}
 use Rattle.x509_report_objects.specs.Lists.{entry_report}
 use Rattle.x509_report_objects.specs.Objects.{object_told}
 use Rattle.x509_report_objects.specs.Places.{Found, Wishes}
-use Rattle.x509_report_objects.specs.declared.objects.Kind.{Kind}
-use Rattle.x509_report_objects.specs.declared.objects.Kind.TheVariants as kinds
+use Rattle.x509_report_objects.specs.declared.kind.Kind.{Kind}
+use Rattle.x509_report_objects.specs.declared.kind.Kind.TheVariants as kinds
 use Rattle.x509_report.specs.Dumps.{view_of}
 use Rattle.x509_report.specs.Sections.{dump_told}
 use Rattle.x509_report.specs.Texts.{object_said, said}

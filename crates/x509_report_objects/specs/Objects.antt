@@ -7,8 +7,8 @@ use Rattle.x509_der.specs.declared.error.Err.{Err as Refusal}
 use Rattle.x509_der.specs.declared.error.Err.TheVariants as refusals
 use Rattle.x509_fields.specs.declared.error.X509Error.{X509Error}
 use Rattle.x509_fields.specs.declared.error.X509Error.TheVariants.{Generic}
-use Rattle.x509_report_objects.specs.declared.objects.Kind.{Kind}
-use Rattle.x509_report_objects.specs.declared.objects.Kind.TheVariants as kinds
+use Rattle.x509_report_objects.specs.declared.kind.Kind.{Kind}
+use Rattle.x509_report_objects.specs.declared.kind.Kind.TheVariants as kinds
 use Rattle.x509_fields.specs.Errors.{x509_word}
 use Rattle.x509_fields.specs.Fields.{Field}
 use Rattle.x509_certs.specs.Certificate.{Certificate, certificate}
@@ -37,10 +37,25 @@ standing_members plain rest = (codes "strict", boolean plain) ∷ (codes "behind
 abbrev pub found_members : Bool → Bool → Part → List ℕ → List (List ℕ × Json)
 found_members plain refused part octets = refused_members refused part octets ++ lenient_members plain part octets
 
+abbrev pub kind_word : Kind → List ℕ
+kind_word kinds.Certificate = codes "certificate"
+kind_word kinds.List = codes "list"
+kind_word kinds.Request = codes "request"
+
+-- which part it is, whole, where paths and rules are told of it
+abbrev pub part_of : Kind → Part
+part_of kinds.Certificate = parts.Certificate
+part_of kinds.List = parts.List
+part_of kinds.Request = parts.Request
+
 -- the object's own members, and behind them what was found
-unfoldable pub object_report : List ℕ → Part → Wishes → Found → List ℕ → Bool → Bool → List ℕ → List (List ℕ × Json) → Json
-object_report kind part w p octets plain refused rest members = record_of (
-    place_members kind p ++ octets_members w.fingerprints p octets ++ standing_members plain rest ++ members ++ found_members plain refused part octets)
+unfoldable pub object_report : Kind → Wishes → Found → List ℕ → Bool → Bool → List ℕ → List (List ℕ × Json) → Json
+object_report kind w p octets plain refused rest members = record_of (
+    place_members (kind_word kind) p
+    ++ octets_members w.fingerprints p octets
+    ++ standing_members plain rest
+    ++ members
+    ++ found_members plain refused (part_of kind) octets)
 
 -- ---- which report stands for an object: that of the first reader that takes it
 
@@ -68,8 +83,7 @@ attempt_report kind error word at path rules = record_of (attempt_members kind e
 
 -- a reader of a kind that was tried, and why it refuses
 pub record Attempted : Type 0 where
-  pub kind : List ℕ
-  pub part : Part
+  pub kind : Kind
   pub refused : Refused
 
 -- a refusal of what a strict reader alone doesn't take
@@ -88,17 +102,18 @@ octet_of at (u ∷ us) = u.at
 
 abbrev pub told_of : List ℕ → Attempted → List Use → ℕ → Json
 told_of octets a rules at =
-    attempt_report a.kind (Some (refusal_name a.refused.why)) (refusal_word x509_word a.refused.why) (Some at) (path_in a.part octets at) (first_uses a.part octets rules)
+    attempt_report (kind_word a.kind) (Some (refusal_name a.refused.why)) (refusal_word x509_word a.refused.why) (Some at)
+    (path_in (part_of a.kind) octets at) (first_uses (part_of a.kind) octets rules)
 
 abbrev pub tried_with : List ℕ → Attempted → List Use → Json
 tried_with octets a rules = told_of octets a rules (octet_of a.refused.at rules)
 
 abbrev pub tried_report : List ℕ → Attempted → Json
-tried_report octets a = tried_with octets a (needed a.part octets a.refused.why)
+tried_report octets a = tried_with octets a (needed (part_of a.kind) octets a.refused.why)
 
-abbrev pub tried_by : List ℕ → Part → Option Refused → List Attempted
-tried_by kind part (Some e) = record { kind = kind; part = part; refused = e } ∷ []
-tried_by kind part None = []
+abbrev pub tried_by : Kind → Option Refused → List Attempted
+tried_by kind (Some e) = record { kind = kind; refused = e } ∷ []
+tried_by kind None = []
 
 -- of each kind, why its reader refuses where it was tried
 pub record Tried : Type 0 where
@@ -107,8 +122,7 @@ pub record Tried : Type 0 where
   pub request : Option Refused
 
 abbrev pub all_tried : Tried → List Attempted
-all_tried t =
-    tried_by (codes "certificate") parts.Certificate t.certificate ++ tried_by (codes "list") parts.List t.list ++ tried_by (codes "request") parts.Request t.request
+all_tried t = tried_by kinds.Certificate t.certificate ++ tried_by kinds.List t.list ++ tried_by kinds.Request t.request
 
 unfoldable pub refusal_report : Wishes → Found → List ℕ → Tried → Json
 refusal_report w p octets tried = record_of (
@@ -141,17 +155,31 @@ told_by w plain report = if w.strict && not plain then Err not_plain else Ok rep
 abbrev pub refused_told : {A : Type 0} → Field A → List ℕ → Refusal X509Error → Told
 refused_told field octets e = Err (record { why = e; at = refused_at field octets })
 
-abbrev pub certificate_told : Wishes → Found → List ℕ → Outcome (Refusal X509Error) Certificate → Told
-certificate_told w p octets (Ok x) = told_by w ((certificate true).marks octets) (object_report (codes "certificate") parts.Certificate w p octets ((certificate true).marks octets) (any_refused x.1.tbs.extensions) x.0 (certificate_members w.fingerprints x.1))
-certificate_told w p octets (Err e) = refused_told (certificate true) octets e
+-- what is told of a kind: its grammar, its own members with or without fingerprints, and whether a value of its extensions can't be read
+pub record Telling (A : Type 0) : Type 1 where
+  pub kind : Kind
+  pub field : Field A
+  pub members : Bool → A → List (List ℕ × Json)
+  pub refuses : A → Bool
 
-abbrev pub list_told : Wishes → Found → List ℕ → Outcome (Refusal X509Error) (Signed TbsList) → Told
-list_told w p octets (Ok x) = told_by w (certificate_list.marks octets) (object_report (codes "list") parts.List w p octets (certificate_list.marks octets) (any_in_list x.1.tbs) x.0 (list_members x.1))
-list_told w p octets (Err e) = refused_told certificate_list octets e
+abbrev pub of_certificates : Telling Certificate
+of_certificates = record { kind = kinds.Certificate; field = certificate true; members = certificate_members; refuses = λ c. any_refused c.tbs.extensions }
 
-abbrev pub request_told : Wishes → Found → List ℕ → Outcome (Refusal X509Error) (Signed RequestInfo) → Told
-request_told w p octets (Ok x) = told_by w (certification_request.marks octets) (object_report (codes "request") parts.Request w p octets (certification_request.marks octets) (any_in_request x.1.tbs) x.0 (request_members w.fingerprints x.1))
-request_told w p octets (Err e) = refused_told certification_request octets e
+abbrev pub of_lists : Telling (Signed TbsList)
+of_lists = record { kind = kinds.List; field = certificate_list; members = λ _. list_members; refuses = λ l. any_in_list l.tbs }
+
+abbrev pub of_requests : Telling (Signed RequestInfo)
+of_requests = record { kind = kinds.Request; field = certification_request; members = request_members; refuses = λ r. any_in_request r.tbs }
+
+abbrev pub told : {A : Type 0} → Telling A → Wishes → Found → List ℕ → Outcome (Refusal X509Error) A → Told
+told t w p octets (Ok x) =
+    told_by w (t.field.marks octets) (object_report t.kind w p octets (t.field.marks octets) (t.refuses x.1) x.0 (t.members w.fingerprints x.1))
+told t w p octets (Err e) = refused_told t.field octets e
+
+abbrev pub is_wanted : Wishes → Kind → Bool
+is_wanted w kinds.Certificate = w.certificates
+is_wanted w kinds.List = w.lists
+is_wanted w kinds.Request = w.requests
 
 -- the reader's report with its kind, or what comes next behind its refusal
 abbrev pub or_next : Kind → Told → (Option Refused → Option Kind × Json) → Option Kind × Json
@@ -162,10 +190,13 @@ abbrev pub first_of : Bool → Kind → Told → (Option Refused → Option Kind
 first_of true kind told next = or_next kind told next
 first_of false kind told next = next None
 
+abbrev pub first_by : {A : Type 0} → Telling A → Wishes → Found → List ℕ → (Option Refused → Option Kind × Json) → Option Kind × Json
+first_by t w p octets next = first_of (is_wanted w t.kind) t.kind (told t w p octets (t.field.read octets)) next
+
 -- which kind it is, where a reader takes it, and its line
 unfoldable pub object_told : Wishes → Found → List ℕ → Option Kind × Json
 object_told w p octets =
-    first_of w.certificates kinds.Certificate (certificate_told w p octets ((certificate true).read octets)) λ first.
-    first_of w.lists kinds.List (list_told w p octets (certificate_list.read octets)) λ second.
-    first_of w.requests kinds.Request (request_told w p octets (certification_request.read octets)) λ third.
+    first_by of_certificates w p octets λ first.
+    first_by of_lists w p octets λ second.
+    first_by of_requests w p octets λ third.
     (None, refusal_report w p octets (record { certificate = first; list = second; request = third }))

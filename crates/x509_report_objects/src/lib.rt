@@ -4,6 +4,7 @@
 mod certificates;
 mod errors;
 mod extensions;
+mod kind;
 mod lenient;
 mod lists;
 mod objects;
@@ -13,6 +14,7 @@ mod summary;
 mod values;
 
 pub use certificates::certificate_members;
+pub use kind::Kind;
 pub use lists::{entry_line, first_parsed, list_members};
-pub use objects::{Found, Kind, Wishes, failed_line, object_line, skipped_line};
+pub use objects::{Found, Wishes, failed_line, object_line, skipped_line};
 pub use requests::request_members;

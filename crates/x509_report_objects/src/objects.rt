@@ -1,40 +1,31 @@
 //! The line of an object, whatever it is.
 
-ghost use Rattle.std.specs.Prelude.{◌≡◌, ◌∷◌, [], true, codes, length, None, IfOk, OnOk, option_map};
+ghost use Rattle.std.specs.Prelude.{◌≡◌, ◌∷◌, [], codes, length, None, IfOk, OnOk, option_map};
 ghost use Rattle.json.specs.Json.{array, string};
-ghost use Rattle.x509_certs.specs.Certificate.{certificate, certificate_of};
-ghost use Rattle.x509_lists.specs.CertificateList.{certificate_list, list_of};
-ghost use Rattle.x509_requests.specs.Request.{certification_request, certification_request_of};
 ghost use Rattle.x509_report_lines.specs.Says.{Says, SaysEach, SaysMembers, SaysUnder, count, items_of, list_of as array_of, optional, written};
-ghost use Rattle.x509_report_objects.specs.Objects.{all_tried, attempt_members, attempt_report, certificate_told, failed_report};
-ghost use Rattle.x509_report_objects.specs.Objects.{found_members, is_strict, list_told, object_told, octet_of};
-ghost use Rattle.x509_report_objects.specs.Objects.{object_report, refusal_report, request_told, skipped_report, standing_members, tried_by};
-ghost use Rattle.x509_report_objects.specs.Objects.{tried_report};
-ghost use Rattle.x509_report_objects.specs.Certificates.{certificate_members};
-ghost use Rattle.x509_report_objects.specs.Lists.{list_members};
-ghost use Rattle.x509_report_objects.specs.Requests.{request_members};
+ghost use Rattle.x509_report_objects.specs.Objects.{all_tried, attempt_members, attempt_report, failed_report, found_members, is_strict};
+ghost use Rattle.x509_report_objects.specs.Objects.{is_wanted, object_report, object_told, octet_of, refusal_report, skipped_report, standing_members};
+ghost use Rattle.x509_report_objects.specs.Objects.{told, tried_by, tried_report};
 ghost use Rattle.x509_report_objects.specs.Places.{octets_members, place_members};
 ghost use Rattle.x509_report_objects.specs.Leniencies.{first_uses};
 ghost use Rattle.x509_report_objects.specs.Attempts.{Attempts, found_of, refused_of, tried_of, wishes_of};
 
-use crate::certificates::certificate_members;
 use crate::errors::refusal_name;
+use crate::kind::{Kind, Object};
 use crate::lenient::{leniencies_under, uses_under, uses_unless};
-use crate::lists::list_members;
-use crate::refused_values::{any_in_list, any_in_request, any_refused, refused_under, some_text};
-use crate::requests::request_members;
+use crate::refused_values::{refused_under, some_text};
 use crate::values::{
     count_under, fingerprint_under, null_under, optional_text_under, text_under, truth_under,
 };
 use std::alloc::{AllocError, Global};
-use x509_certs::{X509Certificate, parse_x509_certificate_located, parse_x509_certificate_marked};
+use x509_certs::X509Certificate;
 use x509_der::{Err, Located};
 use x509_fields::X509Error;
 use x509_leniencies::LenientUse;
-use x509_lists::{CertificateRevocationList, parse_x509_crl_located, parse_x509_crl_marked};
+use x509_lists::CertificateRevocationList;
 use x509_paths::{Part, path_to};
 use x509_report_lines::Line;
-use x509_requests::{X509CertificationRequest, parse_x509_csr_located, parse_x509_csr_marked};
+use x509_requests::X509CertificationRequest;
 
 /// Where an object was found.
 #[derive(Clone, Copy, Debug)]
@@ -64,15 +55,17 @@ pub struct Wishes {
     pub fingerprints: bool,
 }
 
-/// What an object is.
-#[derive(Clone, Copy, Debug, PartialEq, Eq)]
-pub enum Kind {
-    /// A certificate (RFC 5280, section 4.1).
-    Certificate,
-    /// A list of revoked certificates (RFC 5280, section 5.1).
-    List,
-    /// A certification request (RFC 2986, section 4.2).
-    Request,
+impl Wishes {
+    /// Whether an object may be of this kind.
+    fn wants(&self, kind: Kind) -> bool
+        ensures { result ≡ is_wanted (wishes_of self.now) kind }
+    {
+        match kind {
+            Kind::Certificate => self.certificates,
+            Kind::List => self.lists,
+            Kind::Request => self.requests,
+        }
+    }
 }
 
 /// The octets that were tried, those behind the object, whether it stands plainly, and whether a value of its extensions is refused.
@@ -169,45 +162,46 @@ fn say_found(alloc: Global, out: &mut Line, part: Part, seen: &Seen<'_>) -> Resu
     leniencies_under(alloc, out, "leniencies", seen.plain, part, seen.octets)
 }
 
-/// The report of a certificate.
+/// The report of an object.
 #[tactic(auto, unfolding(crate::specs::Objects::object_report), using(crate::proofs::Members::members_end))]
-fn say_certificate(
+fn say_object<'a, T: Object<'a>>(
     alloc: Global,
     out: &mut Line,
     wishes: &Wishes,
     place: &Found<'_>,
     seen: &Seen<'_>,
-    certificate: &X509Certificate<'_>,
+    object: &T,
 ) -> Result<(), AllocError>
-    ensures { Says result out.old out.new (object_report (codes "certificate") Part.Certificate (wishes_of wishes.now) (found_of place.now) seen.now.octets.now
-        seen.now.plain seen.now.refused seen.now.rest.now (certificate_members wishes.now.fingerprints (certificate_of certificate.now))) }
+    ensures { Says result out.old out.new (object_report T.telling.kind (wishes_of wishes.now) (found_of place.now) seen.now.octets.now
+        seen.now.plain seen.now.refused seen.now.rest.now (T.telling.members wishes.now.fingerprints (T.view object.now))) }
 {
+    let kind = T::kind();
     out.begin_object()?;
-    say_place(out, "certificate", place)?;
+    say_place(out, kind.word(), place)?;
     say_octets(alloc, out, wishes.fingerprints, place, seen.octets)?;
     say_standing(out, seen.plain, seen.rest)?;
-    certificate_members(alloc, out, wishes.fingerprints, certificate)?;
-    say_found(alloc, out, Part::Certificate, seen)?;
+    object.say_members(alloc, out, wishes.fingerprints)?;
+    say_found(alloc, out, kind.part(), seen)?;
     out.end_object()?;
     Ok(())
 }
 
-/// The object as a certificate, where it may be one and is.
-fn try_certificate(
+/// The object of this kind, where it may be one and is.
+fn try_as<'a, T: Object<'a>>(
     alloc: Global,
     out: &mut Line,
     wishes: &Wishes,
     place: &Found<'_>,
-    octets: &[u8],
+    octets: &'a [u8],
 ) -> Result<Attempt, AllocError>
-    ensures { IfOk result (λ a. Attempts wishes.now.certificates (certificate_told (wishes_of wishes.now) (found_of place.now) octets.now
-        ((certificate true).read octets.now)) out.old out.new a) }
+    ensures { IfOk result (λ a. Attempts (is_wanted (wishes_of wishes.now) T.telling.kind)
+        (told T.telling (wishes_of wishes.now) (found_of place.now) octets.now (T.telling.field.read octets.now)) out.old out.new a) }
 {
-    if !wishes.certificates {
+    if !wishes.wants(T::kind()) {
         return Ok(Attempt::Left(None));
     }
-    match parse_x509_certificate_marked(alloc, octets) {
-        Ok((rest, certificate, plain)) => {
+    match T::read(alloc, octets) {
+        Ok((rest, object, plain)) => {
             if wishes.strict && !plain {
                 return Ok(Attempt::Left(Some(NOT_PLAIN)));
             }
@@ -215,142 +209,15 @@ fn try_certificate(
                 octets,
                 rest,
                 plain,
-                refused: any_refused(certificate.extensions()),
+                refused: object.refuses(),
             };
-            say_certificate(alloc, out, wishes, place, &seen, &certificate)?;
+            say_object(alloc, out, wishes, place, &seen, &object)?;
             Ok(Attempt::Taken)
         }
-        Err(e) => if e.is_out_of_memory() {
+        Err(refusal) => if refusal.why.is_out_of_memory() {
             Err(AllocError)
         } else {
-            match parse_x509_certificate_located(alloc, octets) {
-                Err(refusal) if !refusal.why.is_out_of_memory() => Ok(Attempt::Left(Some(refusal))),
-                _ => Err(AllocError),
-            }
-        },
-    }
-}
-
-/// The report of a list of revoked certificates.
-#[tactic(auto, unfolding(crate::specs::Objects::object_report), using(crate::proofs::Members::members_end))]
-fn say_list(
-    alloc: Global,
-    out: &mut Line,
-    wishes: &Wishes,
-    place: &Found<'_>,
-    seen: &Seen<'_>,
-    list: &CertificateRevocationList<'_>,
-) -> Result<(), AllocError>
-    ensures { Says result out.old out.new (object_report (codes "list") Part.List (wishes_of wishes.now) (found_of place.now) seen.now.octets.now
-        seen.now.plain seen.now.refused seen.now.rest.now (list_members (list_of list.now))) }
-{
-    out.begin_object()?;
-    say_place(out, "list", place)?;
-    say_octets(alloc, out, wishes.fingerprints, place, seen.octets)?;
-    say_standing(out, seen.plain, seen.rest)?;
-    list_members(alloc, out, list)?;
-    say_found(alloc, out, Part::List, seen)?;
-    out.end_object()?;
-    Ok(())
-}
-
-/// The object as a list of revoked certificates, where it may be one and is.
-fn try_list(
-    alloc: Global,
-    out: &mut Line,
-    wishes: &Wishes,
-    place: &Found<'_>,
-    octets: &[u8],
-) -> Result<Attempt, AllocError>
-    ensures { IfOk result (λ a. Attempts wishes.now.lists (list_told (wishes_of wishes.now) (found_of place.now) octets.now
-        (certificate_list.read octets.now)) out.old out.new a) }
-{
-    if !wishes.lists {
-        return Ok(Attempt::Left(None));
-    }
-    match parse_x509_crl_marked(alloc, octets) {
-        Ok((rest, list, plain)) => {
-            if wishes.strict && !plain {
-                return Ok(Attempt::Left(Some(NOT_PLAIN)));
-            }
-            let seen = Seen {
-                octets,
-                rest,
-                plain,
-                refused: any_in_list(&list),
-            };
-            say_list(alloc, out, wishes, place, &seen, &list)?;
-            Ok(Attempt::Taken)
-        }
-        Err(e) => if e.is_out_of_memory() {
-            Err(AllocError)
-        } else {
-            match parse_x509_crl_located(alloc, octets) {
-                Err(refusal) if !refusal.why.is_out_of_memory() => Ok(Attempt::Left(Some(refusal))),
-                _ => Err(AllocError),
-            }
-        },
-    }
-}
-
-/// The report of a request.
-#[tactic(auto, unfolding(crate::specs::Objects::object_report), using(crate::proofs::Members::members_end))]
-fn say_request(
-    alloc: Global,
-    out: &mut Line,
-    wishes: &Wishes,
-    place: &Found<'_>,
-    seen: &Seen<'_>,
-    request: &X509CertificationRequest<'_>,
-) -> Result<(), AllocError>
-    ensures { Says result out.old out.new (object_report (codes "request") Part.Request (wishes_of wishes.now) (found_of place.now) seen.now.octets.now
-        seen.now.plain seen.now.refused seen.now.rest.now (request_members wishes.now.fingerprints (certification_request_of request.now))) }
-{
-    out.begin_object()?;
-    say_place(out, "request", place)?;
-    say_octets(alloc, out, wishes.fingerprints, place, seen.octets)?;
-    say_standing(out, seen.plain, seen.rest)?;
-    request_members(alloc, out, wishes.fingerprints, request)?;
-    say_found(alloc, out, Part::Request, seen)?;
-    out.end_object()?;
-    Ok(())
-}
-
-/// The object as a request, where it may be one and is.
-fn try_request(
-    alloc: Global,
-    out: &mut Line,
-    wishes: &Wishes,
-    place: &Found<'_>,
-    octets: &[u8],
-) -> Result<Attempt, AllocError>
-    ensures { IfOk result (λ a. Attempts wishes.now.requests (request_told (wishes_of wishes.now) (found_of place.now) octets.now
-        (certification_request.read octets.now)) out.old out.new a) }
-{
-    if !wishes.requests {
-        return Ok(Attempt::Left(None));
-    }
-    match parse_x509_csr_marked(alloc, octets) {
-        Ok((rest, request, plain)) => {
-            if wishes.strict && !plain {
-                return Ok(Attempt::Left(Some(NOT_PLAIN)));
-            }
-            let seen = Seen {
-                octets,
-                rest,
-                plain,
-                refused: any_in_request(&request),
-            };
-            say_request(alloc, out, wishes, place, &seen, &request)?;
-            Ok(Attempt::Taken)
-        }
-        Err(e) => if e.is_out_of_memory() {
-            Err(AllocError)
-        } else {
-            match parse_x509_csr_located(alloc, octets) {
-                Err(refusal) if !refusal.why.is_out_of_memory() => Ok(Attempt::Left(Some(refusal))),
-                _ => Err(AllocError),
-            }
+            Ok(Attempt::Left(Some(refusal)))
         },
     }
 }
@@ -406,14 +273,14 @@ fn say_refused(
     alloc: Global,
     out: &mut Line,
     octets: &[u8],
-    kind: &str,
-    part: Part,
+    kind: Kind,
     refusal: Option<Located<X509Error>>,
 ) -> Result<(), AllocError>
-    ensures { SaysEach result out.old out.new (tried_report octets.now) (tried_by kind.now part (option_map refused_of refusal)) }
+    ensures { SaysEach result out.old out.new (tried_report octets.now) (tried_by kind (option_map refused_of refusal)) }
 {
     match refusal {
         Some(Located { why, at }) => {
+            let part = kind.part();
             let uses = uses_unless(alloc, !is_strict(&why), part, octets)?;
             let at = octet_of(at, uses.as_slice());
             let path = path_to(alloc, part, octets, at)?;
@@ -421,7 +288,7 @@ fn say_refused(
             out.begin_object()?;
             say_attempt(
                 out,
-                kind,
+                kind.word(),
                 Some(error),
                 why.word(),
                 Some(at),
@@ -440,16 +307,9 @@ fn say_refused(
 fn say_tried(alloc: Global, out: &mut Line, octets: &[u8], tried: &Tried) -> Result<(), AllocError>
     ensures { SaysEach result out.old out.new (tried_report octets.now) (all_tried (tried_of tried.now)) }
 {
-    say_refused(
-        alloc,
-        out,
-        octets,
-        "certificate",
-        Part::Certificate,
-        tried.certificate,
-    )?;
-    say_refused(alloc, out, octets, "list", Part::List, tried.list)?;
-    say_refused(alloc, out, octets, "request", Part::Request, tried.request)
+    say_refused(alloc, out, octets, Kind::Certificate, tried.certificate)?;
+    say_refused(alloc, out, octets, Kind::List, tried.list)?;
+    say_refused(alloc, out, octets, Kind::Request, tried.request)
 }
 
 /// What was tried in vain, under a key.
@@ -563,15 +423,15 @@ pub fn object_line(
     ensures kind { IfOk result (λ kind. kind ≡ (object_told (wishes_of wishes.now) (found_of place.now) octets.now).0) }
     ensures line { OnOk result (out.new ≡ written out.old (object_told (wishes_of wishes.now) (found_of place.now) octets.now).1) }
 {
-    let certificate = match try_certificate(alloc, out, wishes, place, octets)? {
+    let certificate = match try_as::<X509Certificate>(alloc, out, wishes, place, octets)? {
         Attempt::Taken => return Ok(Some(Kind::Certificate)),
         Attempt::Left(refusal) => refusal,
     };
-    let list = match try_list(alloc, out, wishes, place, octets)? {
+    let list = match try_as::<CertificateRevocationList>(alloc, out, wishes, place, octets)? {
         Attempt::Taken => return Ok(Some(Kind::List)),
         Attempt::Left(refusal) => refusal,
     };
-    let request = match try_request(alloc, out, wishes, place, octets)? {
+    let request = match try_as::<X509CertificationRequest>(alloc, out, wishes, place, octets)? {
         Attempt::Taken => return Ok(Some(Kind::Request)),
         Attempt::Left(refusal) => refusal,
     };

@@ -8,7 +8,6 @@ mod elements;
 mod fields;
 mod forms;
 mod places;
-mod tags;
 mod unsigned;
 
 /// A certificate that is empty wherever it may be, from 1970 to the end of 2049.
