@@ -15,7 +15,6 @@ use crate::stop::Stop;
 use crate::streams::{ReaderSource, WriterSink};
 use std::alloc::Global;
 use std::process::Abort;
-use std::test::Fail;
 
 /// An X.509 certificate that is empty wherever it may be: 66 bytes.
 const CERTIFICATE: &[u8] = b"\x30\x40\x30\x36\x02\x01\x01\x30\x03\x06\x01\x2A\x30\x00\
@@ -48,7 +47,7 @@ fn expect_report(
 }
 
 #[test]
-fn inputs(rt: HostRuntime) -> Result<(), Fail> {
+fn inputs(rt: HostRuntime) {
     let rows: [(&[u8], u8, &str); 14] = [
         (CERTIFICATE, 0, CERTIFICATE_LINE),
         (
@@ -86,11 +85,10 @@ fn inputs(rt: HostRuntime) -> Result<(), Fail> {
             expect_report(&rt, rt.alloc(), "der", input, (step, step), status, text);
         }
     }
-    Ok(())
 }
 
 #[test]
-fn other_words(rt: HostRuntime) -> Result<(), Fail> {
+fn other_words(rt: HostRuntime) {
     for command in [
         "",
         "crls",
@@ -103,27 +101,25 @@ fn other_words(rt: HostRuntime) -> Result<(), Fail> {
     ] {
         let mut from = MemorySource::new(CERTIFICATE, 0, 1);
         let mut to = MemorySink::new(Vec::new(rt.alloc()), 1000, 1000, 5);
-        assert_eq!(rt; run(rt.alloc(), command, &mut from, &mut to), 2);
-        assert_eq!(rt; to.bytes(), USAGE.as_bytes());
-        assert_eq!(rt; from.rest(), CERTIFICATE);
+        assert!(rt; run(rt.alloc(), command, &mut from, &mut to) == 2);
+        assert!(rt; to.bytes() == USAGE.as_bytes());
+        assert!(rt; from.rest() == CERTIFICATE);
         assert!(rt; !from.failed() && !to.failed());
     }
-    Ok(())
 }
 
 #[test]
-fn second_read_fails(rt: HostRuntime) -> Result<(), Fail> {
+fn second_read_fails(rt: HostRuntime) {
     let mut from = MemorySource::new(CERTIFICATE, 1, 4);
     let mut to = MemorySink::new(Vec::new(rt.alloc()), 1000, 1000, 1000);
-    assert_eq!(rt; run(rt.alloc(), "der", &mut from, &mut to), 3);
+    assert!(rt; run(rt.alloc(), "der", &mut from, &mut to) == 3);
     assert!(rt; to.bytes().is_empty());
     assert!(rt; from.failed() && !to.failed());
-    assert_eq!(rt; cause(&from, &to).why(), "standard input can't be read");
-    Ok(())
+    assert!(rt; cause(&from, &to).why() == "standard input can't be read");
 }
 
 #[test]
-fn writer_stops(rt: HostRuntime) -> Result<(), Fail> {
+fn writer_stops(rt: HostRuntime) {
     // room, calls and step of the writer, and what it has taken when it stops
     let rows = [
         (10, 1000, 1000, "universal "),
@@ -140,48 +136,43 @@ fn writer_stops(rt: HostRuntime) -> Result<(), Fail> {
     for (room, calls, step, taken) in rows {
         let mut from = MemorySource::new(CERTIFICATE, 1000, 1000);
         let mut to = MemorySink::new(Vec::new(rt.alloc()), room, calls, step);
-        assert_eq!(rt; run(rt.alloc(), "der", &mut from, &mut to), 3);
-        assert_eq!(rt; to.bytes(), taken.as_bytes());
+        assert!(rt; run(rt.alloc(), "der", &mut from, &mut to) == 3);
+        assert!(rt; to.bytes() == taken.as_bytes());
         assert!(rt; to.failed() && !from.failed());
-        assert_eq!(rt; cause(&from, &to).why(), "standard output can't be written");
+        assert!(rt; cause(&from, &to).why() == "standard output can't be written");
     }
-    Ok(())
 }
 
 #[test]
-fn usage_cut_short(rt: HostRuntime) -> Result<(), Fail> {
+fn usage_cut_short(rt: HostRuntime) {
     let mut from = MemorySource::new(CERTIFICATE, 0, 1);
     let mut to = MemorySink::new(Vec::new(rt.alloc()), 6, 1000, 1000);
-    assert_eq!(rt; run(rt.alloc(), "pem", &mut from, &mut to), 3);
-    assert_eq!(rt; to.bytes(), b"usage:".as_slice());
+    assert!(rt; run(rt.alloc(), "pem", &mut from, &mut to) == 3);
+    assert!(rt; to.bytes() == b"usage:".as_slice());
     assert!(rt; to.failed() && !from.failed());
-    Ok(())
 }
 
 #[test]
-fn streams_of_std(rt: HostRuntime) -> Result<(), Fail> {
+fn streams_of_std(rt: HostRuntime) {
     let mut bytes = Vec::new(rt.alloc());
     let mut from = ReaderSource::new(CERTIFICATE);
     let mut to = WriterSink::new(&mut bytes);
-    assert_eq!(rt; run(rt.alloc(), "der", &mut from, &mut to), 0);
+    assert!(rt; run(rt.alloc(), "der", &mut from, &mut to) == 0);
     assert!(rt; !from.failed() && !to.failed());
-    assert_eq!(rt; bytes.as_slice(), CERTIFICATE_LINE.as_bytes());
-    Ok(())
+    assert!(rt; bytes.as_slice() == CERTIFICATE_LINE.as_bytes());
 }
 
 #[test]
-fn reports(rt: HostRuntime) -> Result<(), Fail> {
-    let report = element_report(rt.alloc(), CERTIFICATE)?;
-    assert_eq!(rt; report.text(), CERTIFICATE_LINE);
-    assert_eq!(rt; report.status(), 0);
-    Ok(())
+fn reports(rt: HostRuntime) {
+    let report = element_report(rt.alloc(), CERTIFICATE).expect(&rt, "memory");
+    assert!(rt; report.text() == CERTIFICATE_LINE);
+    assert!(rt; report.status() == 0);
 }
 
 #[test]
-fn why_of_want_of_memory(rt: HostRuntime) -> Result<(), Fail> {
+fn why_of_want_of_memory(rt: HostRuntime) {
     let from = MemorySource::new(CERTIFICATE, 0, 1);
     let to = MemorySink::new(Vec::new(rt.alloc()), 0, 0, 1);
-    assert_eq!(rt; cause(&from, &to).why(), "out of memory");
-    assert_eq!(rt; Stop::Memory.why(), "out of memory");
-    Ok(())
+    assert!(rt; cause(&from, &to).why() == "out of memory");
+    assert!(rt; Stop::Memory.why() == "out of memory");
 }

@@ -2,7 +2,10 @@
 
 ghost use Rattle.std.specs.Prelude.{◌≡◌};
 ghost use Rattle.std.specs.Option.{is_some};
+ghost use Rattle.x509_der.specs.Oid.{oid_bytes};
+ghost use Rattle.x509_der.specs.Reading.{Gives};
 ghost use Rattle.x509_names.specs.Registry.{registered};
+ghost use Rattle.x509_uses.specs.Elements.{identified};
 
 use std::alloc::{AllocError, Global};
 use x509_parser::der::{
@@ -11,7 +14,9 @@ use x509_parser::der::{
 use x509_parser::objects::OidRegistry;
 
 /// The identifier at the front of a SEQUENCE, as in an AlgorithmIdentifier, and what stands behind the SEQUENCE.
-pub fn first_identifier<'a>(bytes: &'a [u8]) -> Result<(&'a [u8], Oid<'a>), Err<BerError>> {
+pub fn first_identifier<'a>(bytes: &'a [u8]) -> Result<(&'a [u8], Oid<'a>), Err<BerError>>
+    ensures { Gives (λ x. (x.0.now, oid_bytes x.1)) result (identified.read bytes.now) }
+{
     let mut tries = Tries::new();
     let (rest, contents) = read_sequence(&mut tries, bytes)?;
     let (_, id) = read_oid(&mut tries, contents)?;

@@ -5,10 +5,11 @@ ghost use Rattle.std.specs.Option.{option_map};
 ghost use Rattle.x509_der.specs.Promises.{is_excused};
 ghost use Rattle.x509_der.specs.Unsigned.{unsigned_number};
 ghost use Rattle.x509_fields.specs.Errors.{is_x509_memory};
+ghost use Rattle.x509_fields.specs.declared.error.X509Error.TheVariants.{OutOfMemory};
 ghost use Rattle.x509_lists.specs.CertificateList.{certificate_list};
 ghost use Rattle.x509_lists.specs.RevokedCertificate.{revoked_of};
 ghost use Rattle.x509_lists.specs.TbsCertList.{tbs_list_of};
-ghost use Rattle.x509_uses.specs.Revocation.{IsEntryIn, IsEntryOf};
+ghost use Rattle.x509_uses.specs.Revocation.{IsEntryIn, IsEntryOf, count_among};
 
 use std::alloc::Global;
 use x509_parser::der::{Err, UnsignedBytes};
@@ -35,7 +36,10 @@ pub fn entry_of<'l, 'a>(
 pub fn count_revoked(
     list: &CertificateRevocationList<'_>,
     serials: &[UnsignedBytes<'_>],
-) -> Result<usize, X509Error> {
+) -> Result<usize, X509Error>
+    ensures counted { IfOk result (λ count. count ≡ count_among (tbs_list_of list.now.tbs_cert_list).revoked_certificates serials.now) }
+    ensures memory { IfErr result (λ e. e ≡ OutOfMemory) }
+{
     let index = RevocationIndex::build(&list.tbs_cert_list)?;
     Ok(
         serials

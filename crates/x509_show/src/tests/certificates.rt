@@ -1,7 +1,6 @@
 //! Certificates, shown.
 
 use super::{CERTIFICATE, expect_report};
-use std::test::Fail;
 
 pub const LINES: &str = "version: V1\nserial: 01\nsignature: 1.2\nissuer: \n\
     not before: Jan  1 00:00:00 1970 +00:00\nnot after: Dec 31 23:59:59 2049 +00:00\nsubject: \nkey: 1.2\n\
@@ -20,7 +19,7 @@ const LINES_WITH_TWO: &str = "version: V3\nserial: 00:fe\nsignature: 1.2\nissuer
     extension: 2.5.29.14 critical 0\nextension: 2.5.29.15 normal 1\ntbs: 113\nrest: 0\n";
 
 #[test]
-fn certificates(rt: HostRuntime) -> Result<(), Fail> {
+fn certificates(rt: HostRuntime) {
     let rows: [(&[u8], u8, &str); 7] = [
         (CERTIFICATE, 0, LINES),
         // two bytes behind it
@@ -82,11 +81,10 @@ fn certificates(rt: HostRuntime) -> Result<(), Fail> {
     for (input, status, text) in rows {
         expect_report(&rt, rt.alloc(), "cert", input, (50, 100), status, text);
     }
-    Ok(())
 }
 
 #[test]
-fn every_cut(rt: HostRuntime) -> Result<(), Fail> {
+fn every_cut(rt: HostRuntime) {
     for n in 0..CERTIFICATE.len() {
         let steps = (1000, 1000);
         expect_report(
@@ -99,5 +97,4 @@ fn every_cut(rt: HostRuntime) -> Result<(), Fail> {
             "refused: incomplete\n",
         );
     }
-    Ok(())
 }

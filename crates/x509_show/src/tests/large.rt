@@ -2,17 +2,16 @@
 
 use super::certificates::LINES;
 use super::{CERTIFICATE, expect_report};
-use std::alloc::Global;
-use std::test::Fail;
+use std::alloc::{AllocError, Global};
 
 /// This beginning, that many bytes, and two more.
-fn filled(alloc: Global, front: &[u8], length: usize) -> Result<Vec<u8>, Fail> {
+fn filled(alloc: Global, front: &[u8], length: usize) -> Result<&'static [u8], AllocError> {
     let mut bytes = Vec::new(alloc);
     bytes.extend_from_slice(front)?;
     let contents = vec![in alloc; 0xaa_u8; length]?;
     bytes.extend_from_slice(contents.as_slice())?;
     bytes.extend_from_slice(b"\x05\x00")?;
-    Ok(bytes)
+    Ok(bytes.leak())
 }
 
 /// The header of an OCTET STRING, how many bytes stand behind it but for the last two, and what is written.
@@ -51,32 +50,22 @@ const LONG: [(&[u8], usize, u8, &str); 5] = [
 ];
 
 #[test]
-fn long_elements(rt: HostRuntime) -> Result<(), Fail> {
+fn long_elements(rt: HostRuntime) {
     for (front, length, status, text) in LONG {
-        let input = filled(rt.alloc(), front, length)?;
+        let input = filled(rt.alloc(), front, length).expect(&rt, "memory");
         let steps = (4096, 1000);
-        expect_report(
-            &rt,
-            rt.alloc(),
-            "der",
-            input.as_slice(),
-            steps,
-            status,
-            text,
-        );
+        expect_report(&rt, rt.alloc(), "der", input, steps, status, text);
     }
-    Ok(())
 }
 
 #[test]
-fn long_signature(rt: HostRuntime) -> Result<(), Fail> {
+fn long_signature(rt: HostRuntime) {
     // 56 bytes that are signed, 5 of the algorithm, and a signature of 70,000 bytes
-    let mut front = Vec::new(rt.alloc());
-    front.extend_from_slice(b"\x30\x83\x01\x11\xB3")?;
-    front.extend_from_slice(&CERTIFICATE[2..63])?;
-    front.extend_from_slice(b"\x03\x83\x01\x11\x71\x00")?;
-    let input = filled(rt.alloc(), front.as_slice(), 69_998)?;
+    let mut front = [0; 72];
+    front[..5].copy_from_slice(b"\x30\x83\x01\x11\xB3");
+    front[5..66].copy_from_slice(&CERTIFICATE[2..63]);
+    front[66..].copy_from_slice(b"\x03\x83\x01\x11\x71\x00");
+    let input = filled(rt.alloc(), &front, 69_998).expect(&rt, "memory");
     let steps = (4096, 1000);
-    expect_report(&rt, rt.alloc(), "cert", input.as_slice(), steps, 0, LINES);
-    Ok(())
+    expect_report(&rt, rt.alloc(), "cert", input, steps, 0, LINES);
 }

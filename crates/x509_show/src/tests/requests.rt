@@ -1,7 +1,6 @@
 //! Certification requests, shown.
 
 use super::expect_report;
-use std::test::Fail;
 
 const NO_ATTRIBUTES: &str = "version: V1\nsubject: \nkey: 1.2\nsignature: 1.2\ntbs: 19\nrest: 0\n";
 
@@ -9,7 +8,7 @@ const PASSWORD: &str = "version: V1\nsubject: \nkey: 1.2\nsignature: 1.2\n\
     attribute: 1.2.840.113549.1.9.7 5\ntbs: 37\nrest: 0\n";
 
 #[test]
-fn requests(rt: HostRuntime) -> Result<(), Fail> {
+fn requests(rt: HostRuntime) {
     let rows: [(&[u8], u8, &str); 6] = [
         (
             b"\x30\x1B\x30\x11\x02\x01\x00\x30\x00\x30\x08\x30\x03\x06\x01\x2A\x03\x01\x00\xA0\x00\x30\x03\x06\x01\x2A\x03\x01\x00",
@@ -46,5 +45,4 @@ fn requests(rt: HostRuntime) -> Result<(), Fail> {
     for (input, status, text) in rows {
         expect_report(&rt, rt.alloc(), "csr", input, (50, 100), status, text);
     }
-    Ok(())
 }

@@ -2,7 +2,6 @@
 
 use super::certificates::LINES;
 use super::{CERTIFICATE, expect_report};
-use std::test::Fail;
 
 const GENERIC: &str = "refused: generic error\n";
 
@@ -14,7 +13,7 @@ const REVOKED: &str =
     next update: none\nrevoked: 2a Jan  1 00:00:00 1970 +00:00\ntbs: 46\nrest: 0\n";
 
 #[test]
-fn plain_alone(rt: HostRuntime) -> Result<(), Fail> {
+fn plain_alone(rt: HostRuntime) {
     let rows: [(&str, &[u8], u8, &str); 11] = [
         ("cert-strict", CERTIFICATE, 0, LINES),
         // the length of the wrapper of extensions says nothing
@@ -95,5 +94,4 @@ fn plain_alone(rt: HostRuntime) -> Result<(), Fail> {
     for (command, input, status, text) in rows {
         expect_report(&rt, rt.alloc(), command, input, (50, 100), status, text);
     }
-    Ok(())
 }

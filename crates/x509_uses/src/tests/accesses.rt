@@ -1,9 +1,8 @@
 //! The locations of an authority, lent under their methods.
 
-use super::kept;
+use super::made;
 use std::collections::HashMap;
 use std::hash::{BuildHasherDefault, FoldHasher};
-use std::test::Fail;
 use x509_parser::der::{FromDer, Oid};
 use x509_parser::extensions::{AuthorityInfoAccess, GeneralName, SubjectInfoAccess};
 
@@ -22,38 +21,33 @@ fn is_uri(name: &GeneralName<'_>, text: &str) -> bool {
 }
 
 #[test]
-fn lent_locations_of_an_issuer(rt: HostRuntime) -> Result<(), Fail> {
-    let (_, read) = kept(
-        rt.alloc(),
-        AuthorityInfoAccess::from_der(rt.alloc(), THREE)?,
-    )?;
-    let map = kept(rt.alloc(), read.as_hashmap(rt.alloc(), Hasher::new())?)?;
-    assert_eq!(rt; map.len(), 2);
-    let group = map.get(&Oid::new(METHOD)).ok_or("no group")?;
-    assert_eq!(rt; group.len(), 2);
+fn lent_locations_of_an_issuer(rt: HostRuntime) {
+    let (_, read) = made(&rt, AuthorityInfoAccess::from_der(rt.alloc(), THREE));
+    let map = made(&rt, read.as_hashmap(rt.alloc(), Hasher::new()));
+    assert!(rt; map.len() == 2);
+    let group = map.get(&Oid::new(METHOD)).expect(&rt, "a group");
+    assert!(rt; group.len() == 2);
     for (i, text) in ["aa", "bb"].iter().enumerate() {
         assert!(rt; i < group.len());
         assert!(rt; is_uri(group[i], *text));
     }
-    let apart = map.get(&Oid::new(OTHER)).ok_or("no group apart")?;
+    let apart = map.get(&Oid::new(OTHER)).expect(&rt, "a group apart");
     assert!(rt; apart.len() == 1);
     assert!(rt; is_uri(apart[0], "cc"));
-    Ok(())
 }
 
 #[test]
-fn lent_locations_of_a_subject(rt: HostRuntime) -> Result<(), Fail> {
-    let (_, read) = kept(rt.alloc(), SubjectInfoAccess::from_der(rt.alloc(), THREE)?)?;
-    let map = kept(rt.alloc(), read.as_hashmap(rt.alloc(), Hasher::new())?)?;
-    assert_eq!(rt; map.len(), 2);
-    let group = map.get(&Oid::new(METHOD)).ok_or("no group")?;
-    assert_eq!(rt; group.len(), 2);
+fn lent_locations_of_a_subject(rt: HostRuntime) {
+    let (_, read) = made(&rt, SubjectInfoAccess::from_der(rt.alloc(), THREE));
+    let map = made(&rt, read.as_hashmap(rt.alloc(), Hasher::new()));
+    assert!(rt; map.len() == 2);
+    let group = map.get(&Oid::new(METHOD)).expect(&rt, "a group");
+    assert!(rt; group.len() == 2);
     for (i, text) in ["aa", "bb"].iter().enumerate() {
         assert!(rt; i < group.len());
         assert!(rt; is_uri(group[i], *text));
     }
-    let apart = map.get(&Oid::new(OTHER)).ok_or("no group apart")?;
+    let apart = map.get(&Oid::new(OTHER)).expect(&rt, "a group apart");
     assert!(rt; apart.len() == 1);
     assert!(rt; is_uri(apart[0], "cc"));
-    Ok(())
 }

@@ -1,12 +1,11 @@
 //! The forms that users write, each once.
 
-use super::kept;
+use super::made;
 use crate::{
     Next, count_revoked, days_left, days_valid, entry_in_octets, entry_of, fault_in,
     field_at_fault, first_identifier, has_strong_key, hosts, is_another_structure, is_known,
     is_modest, next_after, outline, strict_fault_in,
 };
-use std::test::Fail;
 use x509_parser::certification_request::X509CertificationRequest;
 use x509_parser::der::{Err, FromDer, Stop, Tag, UnsignedBytes};
 use x509_parser::error::X509Error;
@@ -50,121 +49,104 @@ const ASKS_WITH_PASSWORD: &[u8] = b"\
     \x03\x06\x01\x2A\x03\x01\x00";
 
 #[test]
-fn of_a_certificate(rt: HostRuntime) -> Result<(), Fail> {
-    let (_, certificate) = kept(rt.alloc(), parse_x509_certificate(rt.alloc(), HOSTS)?)?;
-    let hosts = kept(rt.alloc(), hosts(rt.alloc(), certificate)?)?;
+fn of_a_certificate(rt: HostRuntime) {
+    let (_, certificate) = made(&rt, parse_x509_certificate(rt.alloc(), HOSTS));
+    let hosts = made(&rt, hosts(rt.alloc(), certificate));
     let [first, second] = hosts.as_slice() else {
-        return Err(Fail::from("not two hosts"));
+        panic!(rt; "not two hosts");
     };
-    assert_eq!(rt; *first, "a.example");
-    assert_eq!(rt; *second, "b.example");
+    assert!(rt; *first == "a.example");
+    assert!(rt; *second == "b.example");
     assert!(rt; has_strong_key(certificate));
-    assert_eq!(rt; days_valid(certificate), Some(29_219));
-    assert_eq!(rt; days_left(certificate, 2_524_607_999 - 86_400), Some(1));
-    assert_eq!(rt; days_left(certificate, 2_524_607_999), Some(0));
-    assert_eq!(rt; days_left(certificate, 2_524_608_000), Some(-1));
-    assert_eq!(rt;
-        days_left(certificate, 2_524_607_999 + 2 * 86_400),
-        Some(-2)
-    );
-    assert_eq!(rt; days_left(certificate, i64::MIN), None);
-    Ok(())
+    assert!(rt; days_valid(certificate) == Some(29_219));
+    assert!(rt; days_left(certificate, 2_524_607_999 - 86_400) == Some(1));
+    assert!(rt; days_left(certificate, 2_524_607_999) == Some(0));
+    assert!(rt; days_left(certificate, 2_524_608_000) == Some(-1));
+    assert!(rt; days_left(certificate, 2_524_607_999 + 2 * 86_400) == Some(-2));
+    assert!(rt; days_left(certificate, i64::MIN) == None);
 }
 
 #[test]
-fn of_a_list(rt: HostRuntime) -> Result<(), Fail> {
-    let (_, list) = kept(rt.alloc(), parse_x509_crl(rt.alloc(), LIST)?)?;
+fn of_a_list(rt: HostRuntime) {
+    let (_, list) = made(&rt, parse_x509_crl(rt.alloc(), LIST));
     let (there, away) = (UnsignedBytes::new(b"\xA1"), UnsignedBytes::new(b"\x08"));
     assert!(rt;
         matches!(entry_of(list, &there), Some(entry) if entry.raw_serial() == b"\x00\xA1".as_slice())
     );
     assert!(rt; entry_of(list, &away).is_none());
-    assert_eq!(rt;
-        count_revoked(list, &[there, away, UnsignedBytes::new(b"\x07")])?,
-        2
-    );
-    let found = kept(rt.alloc(), entry_in_octets(rt.alloc(), LIST, &there)?)?;
+    assert!(rt; count_revoked(list, &[there, away, UnsignedBytes::new(b"\x07")]) == Ok(2));
+    let found = made(&rt, entry_in_octets(rt.alloc(), LIST, &there));
     assert!(rt; matches!(found, Some((1, entry)) if entry.raw_serial() == b"\x00\xA1".as_slice()));
-    Ok(())
 }
 
 #[test]
-fn of_requests(rt: HostRuntime) -> Result<(), Fail> {
-    let asks = X509CertificationRequest::from_der(rt.alloc(), ASKS)?;
-    let (_, asks) = kept(rt.alloc(), asks)?;
+fn of_requests(rt: HostRuntime) {
+    let (_, asks) = made(&rt, X509CertificationRequest::from_der(rt.alloc(), ASKS));
     assert!(rt; is_modest(asks));
-    let asks = X509CertificationRequest::from_der(rt.alloc(), ASKS_WITH_PASSWORD)?;
-    let (_, with_password) = kept(rt.alloc(), asks)?;
+    let asks = X509CertificationRequest::from_der(rt.alloc(), ASKS_WITH_PASSWORD);
+    let (_, with_password) = made(&rt, asks);
     assert!(rt; !is_modest(with_password));
-    Ok(())
 }
 
 #[test]
-fn of_refusals(rt: HostRuntime) -> Result<(), Fail> {
+fn of_refusals(rt: HostRuntime) {
     let read = parse_x509_certificate(rt.alloc(), &HOSTS[..186]);
-    let cut = read.err().ok_or("a certificate cut short")?;
+    let cut = read.err().expect(&rt, "a certificate cut short");
     assert!(rt; matches!(next_after(&cut), Next::AwaitMore));
     assert!(rt; !is_another_structure(&cut));
     let another = parse_x509_certificate(rt.alloc(), LIST)
         .err()
-        .ok_or("a list")?;
+        .expect(&rt, "a list");
     assert!(rt; matches!(next_after(&another), Next::Refuse));
     assert!(rt; is_another_structure(&another));
-    Ok(())
 }
 
 // Where a list has its thisUpdate, a certificate has its validity.
 #[test]
-fn of_a_fault(rt: HostRuntime) -> Result<(), Fail> {
-    assert_eq!(rt; fault_in(rt.alloc(), LIST)?, Some((14, "invalid tag")));
-    assert_eq!(rt; fault_in(rt.alloc(), HOSTS)?, None);
-    let path = kept(rt.alloc(), field_at_fault(rt.alloc(), LIST)?)?;
+fn of_a_fault(rt: HostRuntime) {
+    assert!(rt; fault_in(rt.alloc(), LIST) == Ok(Some((14, "invalid tag"))));
+    assert!(rt; fault_in(rt.alloc(), HOSTS) == Ok(None));
+    let path = made(&rt, field_at_fault(rt.alloc(), LIST));
     assert!(rt; matches!(path, Some(path) if path.as_str() == "tbsCertificate.validity"));
-    Ok(())
 }
 
 // A serial of context class, whose element begins at octet 4.
 #[test]
-fn of_a_rule(rt: HostRuntime) -> Result<(), Fail> {
-    assert_eq!(rt;
-        strict_fault_in(rt.alloc(), LENIENT)?,
-        Some(StrictRefusal {
-            why: Err::Error(X509Error::Generic),
-            at: 4,
-            rule: Some(Leniency::AnySerial)
-        })
-    );
-    assert_eq!(rt; strict_fault_in(rt.alloc(), HOSTS)?, None);
-    let Some(refusal) = strict_fault_in(rt.alloc(), LIST)? else {
-        return Err(Fail::from("a list is no certificate"));
+fn of_a_rule(rt: HostRuntime) {
+    let wanted = StrictRefusal {
+        why: Err::Error(X509Error::Generic),
+        at: 4,
+        rule: Some(Leniency::AnySerial),
     };
-    assert_eq!(rt; refusal.rule, None);
-    Ok(())
+    assert!(rt; strict_fault_in(rt.alloc(), LENIENT) == Ok(Some(wanted)));
+    assert!(rt; strict_fault_in(rt.alloc(), HOSTS) == Ok(None));
+    let Ok(Some(refusal)) = strict_fault_in(rt.alloc(), LIST) else {
+        panic!(rt; "a list is no certificate");
+    };
+    assert!(rt; refusal.rule.is_none());
 }
 
 #[test]
-fn of_an_element(rt: HostRuntime) -> Result<(), Fail> {
-    let (rest, id) = first_identifier(b"\x30\x05\x06\x01\x2A\x05\x00\x01")?;
-    assert_eq!(rt; rest, b"\x01".as_slice());
-    assert_eq!(rt; id.as_bytes(), b"\x2A".as_slice());
+fn of_an_element(rt: HostRuntime) {
+    let (rest, id) = made(&rt, first_identifier(b"\x30\x05\x06\x01\x2A\x05\x00\x01"));
+    assert!(rt; *rest == b"\x01".as_slice());
+    assert!(rt; id.as_bytes() == b"\x2A".as_slice());
     assert!(rt; first_identifier(b"\x30\x00").is_err());
-    let (headers, stop) = kept(
-        rt.alloc(),
-        outline(rt.alloc(), b"\x05\x00\x02\x01\x07\x30\x02\x05")?,
-    )?;
+    let (headers, stop) = made(
+        &rt,
+        outline(rt.alloc(), b"\x05\x00\x02\x01\x07\x30\x02\x05"),
+    );
     let [null, number] = headers.as_slice() else {
-        return Err(Fail::from("not two members"));
+        panic!(rt; "not two members");
     };
-    assert_eq!(rt; (null.tag, number.tag), (Tag::Null, Tag::Integer));
+    assert!(rt; (null.tag, number.tag) == (Tag::Null, Tag::Integer));
     assert!(rt; matches!(stop, Stop::Short { .. }));
-    Ok(())
 }
 
 #[test]
-fn of_octets_that_live_shorter(rt: HostRuntime) -> Result<(), Fail> {
-    let registry = kept(rt.alloc(), oid_registry(rt.alloc())?)?;
+fn of_octets_that_live_shorter(rt: HostRuntime) {
+    let registry = made(&rt, oid_registry(rt.alloc()));
     let octets = [0x55u8, 0x04, 0x03];
     assert!(rt; is_known(registry, octets.as_slice()));
     assert!(rt; !is_known(registry, &octets[..2]));
-    Ok(())
 }

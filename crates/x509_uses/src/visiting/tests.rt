@@ -1,6 +1,5 @@
 use super::{Quiet, VisitCount, walk_list_quietly, walk_quietly};
-use crate::tests::kept;
-use std::test::Fail;
+use crate::tests::made;
 use x509_parser::visitor::{WalkCertificate, WalkRevocationList};
 use x509_parser::{parse_x509_certificate, parse_x509_crl};
 
@@ -18,29 +17,27 @@ const LIST: &[u8] =
       \x01\x00";
 
 #[test]
-fn over_a_certificate(rt: HostRuntime) -> Result<(), Fail> {
-    let (_, certificate) = kept(rt.alloc(), parse_x509_certificate(rt.alloc(), CERTIFICATE)?)?;
+fn over_a_certificate(rt: HostRuntime) {
+    let (_, certificate) = made(&rt, parse_x509_certificate(rt.alloc(), CERTIFICATE));
     let mut quiet = Quiet { state: 7 };
-    assert_eq!(rt; walk_quietly(&mut quiet, certificate), Ok(()));
-    assert_eq!(rt; quiet.state, 7);
+    assert!(rt; walk_quietly(&mut quiet, certificate) == Ok(()));
+    assert!(rt; quiet.state == 7);
     let mut visits = VisitCount { count: 0 };
-    certificate.walk(&mut visits)?;
-    assert_eq!(rt; visits.count, 16);
-    certificate.tbs_certificate.walk(&mut visits)?;
-    assert_eq!(rt; visits.count, 29);
-    Ok(())
+    assert!(rt; certificate.walk(&mut visits) == Ok(()));
+    assert!(rt; visits.count == 16);
+    assert!(rt; certificate.tbs_certificate.walk(&mut visits) == Ok(()));
+    assert!(rt; visits.count == 29);
 }
 
 #[test]
-fn over_a_list(rt: HostRuntime) -> Result<(), Fail> {
-    let (_, list) = kept(rt.alloc(), parse_x509_crl(rt.alloc(), LIST)?)?;
+fn over_a_list(rt: HostRuntime) {
+    let (_, list) = made(&rt, parse_x509_crl(rt.alloc(), LIST));
     let mut quiet = Quiet { state: 7 };
-    assert_eq!(rt; walk_list_quietly(&mut quiet, list), Ok(()));
-    assert_eq!(rt; quiet.state, 7);
+    assert!(rt; walk_list_quietly(&mut quiet, list) == Ok(()));
+    assert!(rt; quiet.state == 7);
     let mut visits = VisitCount { count: 0 };
-    list.walk(&mut visits)?;
-    assert_eq!(rt; visits.count, 14);
-    list.tbs_cert_list.walk(&mut visits)?;
-    assert_eq!(rt; visits.count, 25);
-    Ok(())
+    assert!(rt; list.walk(&mut visits) == Ok(()));
+    assert!(rt; visits.count == 14);
+    assert!(rt; list.tbs_cert_list.walk(&mut visits) == Ok(()));
+    assert!(rt; visits.count == 25);
 }
