@@ -1,33 +1,35 @@
 //! Certificates by one call.
 
-use super::fixtures::{BITS, EXTENDED_BYTES, PLAIN_BYTES, SERIAL, joined, made, replaced, whole};
+use super::fixtures::{BITS, EXTENDED_BYTES, PLAIN_BYTES, SERIAL, joined, kept, replaced, whole};
 use crate::prelude::*;
+use std::test::Fail;
 use x509_der::{Err, Oid, Tries};
 
 #[test]
 fn nothing(rt: HostRuntime) {
     let refusal = Some(Err::Incomplete);
-    assert!(rt; parse_x509_certificate(rt.alloc(), b"").err() == refusal);
-    assert!(rt; parse_x509_der(rt.alloc(), b"").err() == refusal);
+    assert_eq!(rt; parse_x509_certificate(rt.alloc(), b"").err(), refusal);
+    assert_eq!(rt; parse_x509_der(rt.alloc(), b"").err(), refusal);
     let mut tries = Tries::new();
     let read = X509Certificate::read(rt.alloc(), &mut tries, b"");
-    assert!(rt; read.err() == refusal);
-    assert!(rt; tries.count() == 0);
+    assert_eq!(rt; read.err(), refusal);
+    assert_eq!(rt; tries.count(), 0);
 }
 
 #[test]
-fn windows(rt: HostRuntime) {
+fn windows(rt: HostRuntime) -> Result<(), Fail> {
     let bytes: &[u8] = PLAIN_BYTES;
-    let certificate = whole(&rt, parse_x509_der(rt.alloc(), bytes));
-    assert!(rt; certificate.version() == X509Version::V1);
+    let certificate = whole(rt.alloc(), parse_x509_der(rt.alloc(), bytes))?;
+    assert_eq!(rt; certificate.version(), X509Version::V1);
     assert!(rt; certificate.tbs_certificate.serial.is_u32(1));
-    assert!(rt; certificate.tbs_certificate.as_ref() == &bytes[2..58]);
-    assert!(rt; certificate.as_raw() == bytes);
-    let longer = joined(&rt, &[bytes, b"\x05\x00"]);
-    let (rest, certificate) = made(&rt, parse_x509_certificate(rt.alloc(), longer));
+    assert_eq!(rt; certificate.tbs_certificate.as_ref(), &bytes[2..58]);
+    assert_eq!(rt; certificate.as_raw(), bytes);
+    let longer = joined(rt.alloc(), &[bytes, b"\x05\x00"])?;
+    let (rest, certificate) = kept(rt.alloc(), parse_x509_certificate(rt.alloc(), longer)?)?;
     assert!(rt; matches!(*rest, [5, 0]));
-    assert!(rt; certificate.as_raw() == bytes);
-    assert!(rt; certificate.as_ref() == bytes);
+    assert_eq!(rt; certificate.as_raw(), bytes);
+    assert_eq!(rt; certificate.as_ref(), bytes);
+    Ok(())
 }
 
 /// The wrapper of extensions, as it stands; and without a length, of another one, primitive, universal.
@@ -41,20 +43,21 @@ const WRAPPERS: [[u8; 2]; 5] = [
 
 /// It is known by its number alone.
 #[test]
-fn key_identifier(rt: HostRuntime) {
+fn key_identifier(rt: HostRuntime) -> Result<(), Fail> {
     for [identifier, length] in WRAPPERS {
         let mut bytes = *EXTENDED_BYTES;
         bytes[63] = identifier;
         bytes[64] = length;
-        let certificate = whole(&rt, parse_x509_certificate(rt.alloc(), &bytes));
-        assert!(rt; certificate.version() == X509Version::V3);
-        assert!(rt; certificate.as_raw() == bytes.as_slice());
-        assert!(rt; certificate.tbs_certificate.as_ref() == &bytes[2..98]);
+        let certificate = whole(rt.alloc(), parse_x509_certificate(rt.alloc(), &bytes))?;
+        assert_eq!(rt; certificate.version(), X509Version::V3);
+        assert_eq!(rt; certificate.as_raw(), bytes.as_slice());
+        assert_eq!(rt; certificate.tbs_certificate.as_ref(), &bytes[2..98]);
         assert!(rt;
             matches!(certificate.extensions(), [e]
                 if e.oid.as_bytes() == b"\x55\x1D\x0E".as_slice() && !e.critical && e.value == &bytes[76..98])
         );
     }
+    Ok(())
 }
 
 const SERIALS: [(&[u8], u32, &[u8]); 4] = [
@@ -66,13 +69,14 @@ const SERIALS: [(&[u8], u32, &[u8]); 4] = [
 ];
 
 #[test]
-fn serials(rt: HostRuntime) {
+fn serials(rt: HostRuntime) -> Result<(), Fail> {
     for (bytes, serial, contents) in SERIALS {
-        let bytes = replaced(&rt, PLAIN_BYTES, SERIAL, bytes);
-        let certificate = whole(&rt, parse_x509_certificate(rt.alloc(), bytes));
+        let bytes = replaced(rt.alloc(), PLAIN_BYTES, SERIAL, bytes)?;
+        let certificate = whole(rt.alloc(), parse_x509_certificate(rt.alloc(), bytes))?;
         assert!(rt; certificate.tbs_certificate.serial.is_u32(serial));
-        assert!(rt; certificate.raw_serial() == contents);
+        assert_eq!(rt; certificate.raw_serial(), contents);
     }
+    Ok(())
 }
 
 /// The signature, and what is skipped behind it.
@@ -84,23 +88,24 @@ const TAILS: [&[u8]; 4] = [
 ];
 
 #[test]
-fn bytes_behind_the_signature(rt: HostRuntime) {
+fn bytes_behind_the_signature(rt: HostRuntime) -> Result<(), Fail> {
     for bits in TAILS {
-        let bytes = replaced(&rt, PLAIN_BYTES, BITS, bits);
-        let read = whole(&rt, parse_x509_certificate(rt.alloc(), bytes));
-        assert!(rt; read.as_raw() == bytes);
-        assert!(rt; read.tbs_certificate.as_ref().len() == 56);
+        let bytes = replaced(rt.alloc(), PLAIN_BYTES, BITS, bits)?;
+        let read = whole(rt.alloc(), parse_x509_certificate(rt.alloc(), bytes))?;
+        assert_eq!(rt; read.as_raw(), bytes);
+        assert_eq!(rt; read.tbs_certificate.as_ref().len(), 56);
         assert!(rt; read.signature_value.bytes.is_empty());
     }
+    Ok(())
 }
 
 #[test]
-fn repeated_extension(rt: HostRuntime) {
+fn repeated_extension(rt: HostRuntime) -> Result<(), Fail> {
     let one: &[u8] = EXTENDED_BYTES;
     let (front, list): (&[u8], &[u8]) = (b"\x30\x81\x87\x30\x7D", b"\xA3\x40\x30\x3E");
     let parts = [front, &one[4..63], list, &one[67..98], &one[67..106]];
-    let bytes = &*joined(&rt, &parts);
-    let certificate = whole(&rt, parse_x509_certificate(rt.alloc(), bytes));
+    let bytes = &*joined(rt.alloc(), &parts)?;
+    let certificate = whole(rt.alloc(), parse_x509_certificate(rt.alloc(), bytes))?;
     let oid = Oid::new(OID_X509_EXT_SUBJECT_KEY_IDENTIFIER);
     assert!(rt;
         matches!(certificate.extensions(), [a, b] if a == b && a.oid == oid && a.value == &one[76..98])
@@ -108,6 +113,7 @@ fn repeated_extension(rt: HostRuntime) {
     assert!(rt; certificate.find_extension(&oid).is_some());
     let unique = certificate.get_extension_unique(&oid);
     assert!(rt; matches!(unique, Err(X509Error::DuplicateExtensions)));
-    let strict = whole(&rt, parse_x509_certificate_strict(rt.alloc(), bytes));
+    let strict = whole(rt.alloc(), parse_x509_certificate_strict(rt.alloc(), bytes))?;
     assert!(rt; strict == certificate);
+    Ok(())
 }

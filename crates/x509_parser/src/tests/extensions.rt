@@ -1,22 +1,25 @@
 //! Extensions and look-ups by identifier.
 
-use super::fixtures::{EXTENDED_BYTES, Ends, repeated, sequence, shows, whole};
+use super::fixtures::{EXTENDED_BYTES, repeated, sequence, shows, whole};
 use crate::prelude::*;
+use std::alloc::Global;
+use std::test::Fail;
 use x509_der::{Oid, Tries};
 use x509_extensions::get_extension_unique;
 
 #[test]
-fn depths(rt: HostRuntime) {
+fn depths(rt: HostRuntime) -> Result<(), Fail> {
     let certificate: &[u8] = EXTENDED_BYTES;
     let bytes = &certificate[67..98];
-    let deep = whole(&rt, X509Extension::from_der(rt.alloc(), bytes));
+    let deep = whole(rt.alloc(), X509Extension::from_der(rt.alloc(), bytes))?;
     assert!(rt; !deep.critical);
     assert!(rt;
         matches!(deep.parsed_extension(), ParsedExtension::SubjectKeyIdentifier(id) if id.0 == &bytes[11..])
     );
     let shallow = X509ExtensionParser::new().with_deep_parse_extensions(false);
-    let envelope = whole(&rt, shallow.parse(rt.alloc(), bytes));
+    let envelope = whole(rt.alloc(), shallow.parse(rt.alloc(), bytes))?;
     assert!(rt; matches!(envelope.parsed_extension(), ParsedExtension::Unparsed));
+    Ok(())
 }
 
 const USAGE: &[u8] = b"\x06\x03\x55\x1D\x0F";
@@ -48,41 +51,42 @@ const VALUES: [(&[u8], &[u8], &str); 10] = [
 ];
 
 // Whether an extension's value is this, in a text.
-fn is_value(rt: &impl Ends, value: &ParsedExtension<'_>, text: &str) -> bool {
+fn is_value(alloc: Global, value: &ParsedExtension<'_>, text: &str) -> Result<bool, Fail> {
     match value {
-        ParsedExtension::ParseError { error } => shows(rt, &format_args!("{error:?}"), text),
-        ParsedExtension::ReasonCode(code) => shows(rt, code, text),
-        ParsedExtension::InvalidityDate(time) => shows(rt, &time.timestamp(), text),
-        ParsedExtension::CRLNumber(number) => number.is_u32(3) && text == "3",
-        ParsedExtension::NsCertComment(comment) => *comment == text,
+        ParsedExtension::ParseError { error } => shows(alloc, &format_args!("{error:?}"), text),
+        ParsedExtension::ReasonCode(code) => shows(alloc, code, text),
+        ParsedExtension::InvalidityDate(time) => shows(alloc, &time.timestamp(), text),
+        ParsedExtension::CRLNumber(number) => Ok(number.is_u32(3) && text == "3"),
+        ParsedExtension::NsCertComment(comment) => Ok(*comment == text),
         ParsedExtension::SubjectAlternativeName(names) => match names.general_names.as_slice() {
-            [name] => shows(rt, name, text),
-            _ => false,
+            [name] => shows(alloc, name, text),
+            _ => Ok(false),
         },
-        _ => false,
+        _ => Ok(false),
     }
 }
 
 #[test]
-fn values(rt: HostRuntime) {
+fn values(rt: HostRuntime) -> Result<(), Fail> {
     for (id, value, wanted) in VALUES {
-        let bytes = sequence(&rt, &[id, value]);
-        let extension = whole(&rt, X509Extension::from_der(rt.alloc(), bytes));
-        let same = is_value(&rt, extension.parsed_extension(), wanted);
+        let bytes = sequence(rt.alloc(), &[id, value])?;
+        let extension = whole(rt.alloc(), X509Extension::from_der(rt.alloc(), bytes))?;
+        let same = is_value(rt.alloc(), extension.parsed_extension(), wanted)?;
         assert!(rt; same, "at {wanted}");
     }
+    Ok(())
 }
 
 /// An issuing distribution point whose bytes are no fields of its own: in at least four looks at headers and at most eight.
 #[test]
-fn issuing_distribution_point(rt: HostRuntime) {
+fn issuing_distribution_point(rt: HostRuntime) -> Result<(), Fail> {
     let bytes = b"\x30\x0A\x06\x03\x55\x1D\x1C\x04\x03\x30\x01\x05";
     let mut tries = Tries::new();
     let read = X509Extension::read(rt.alloc(), &mut tries, bytes);
-    let extension = whole(&rt, read);
+    let extension = whole(rt.alloc(), read)?;
     assert!(rt; tries.count() >= 4 && tries.count() <= 8);
     let ParsedExtension::IssuingDistributionPoint(point) = extension.parsed_extension() else {
-        panic!(rt; "another value");
+        return Err(Fail::from("another value"));
     };
     assert!(rt; point.distribution_point.is_none() && point.only_some_reasons.is_none());
     assert!(rt;
@@ -91,11 +95,12 @@ fn issuing_distribution_point(rt: HostRuntime) {
             || point.indirect_crl
             || point.only_contains_attribute_certs)
     );
+    Ok(())
 }
 
 #[test]
-fn look_ups(rt: HostRuntime) {
-    let extensions = repeated(&rt).extensions();
+fn look_ups(rt: HostRuntime) -> Result<(), Fail> {
+    let extensions = repeated(rt.alloc())?.extensions();
     let twice = Err(X509Error::DuplicateExtensions);
     for (octets, found) in [
         (b"\x2B", Ok(true)),
@@ -104,13 +109,14 @@ fn look_ups(rt: HostRuntime) {
         (b"\x2C", twice),
     ] {
         let looked_up = get_extension_unique(extensions, &Oid::new(octets));
-        assert!(rt; looked_up.map(|e| e.is_some()) == found);
+        assert_eq!(rt; looked_up.map(|e| e.is_some()), found);
     }
     let read = parse_x509_certificate(rt.alloc(), EXTENDED_BYTES);
-    let certificate = whole(&rt, read);
+    let certificate = whole(rt.alloc(), read)?;
     assert!(rt; matches!(certificate.basic_constraints(), Ok(None)));
     assert!(rt; matches!(certificate.key_usage(), Ok(None)));
     let oid = Oid::new(OID_X509_EXT_SUBJECT_KEY_IDENTIFIER);
     assert!(rt; matches!(certificate.get_extension_unique(&oid), Ok(Some(_))));
     assert!(rt; !certificate.is_ca());
+    Ok(())
 }

@@ -3,13 +3,8 @@
 use crate::prelude::*;
 use std::alloc::Global;
 use std::fmt::{Debug, Display};
-use std::process::Abort;
+use std::test::Fail;
 use x509_der::Err;
-
-/// What a test is given: memory, and that it ends where something isn't as it should be.
-pub trait Ends: Abort + AllocGlobal {}
-
-impl<R: Abort + AllocGlobal> Ends for R {}
 
 /// A certificate that is empty wherever it may be: 66 bytes.
 pub const PLAIN_BYTES: &[u8; 66] =
@@ -39,67 +34,67 @@ pub const BITS: Place = (63, 66);
 pub const EXTENSIONS: Place = (63, 98);
 
 /// A certificate with other bytes at a place, and with the lengths of its two containers kept right.
-pub fn replaced(rt: &impl Ends, whole: &[u8], place: Place, bytes: &[u8]) -> &'static [u8] {
+pub fn replaced(
+    alloc: Global,
+    whole: &[u8],
+    place: Place,
+    bytes: &[u8],
+) -> Result<&'static [u8], Fail> {
     let (from, to) = place;
     let (Some(front), Some(behind)) = (whole.get(..from), whole.get(to..)) else {
-        panic!(rt; "no such place");
+        return Err(Fail::from("no such place"));
     };
-    let all = joined(rt, &[front, bytes, behind]);
-    let length = u8::try_from(all.len()).expect(rt, "a short length");
+    let all = joined(alloc, &[front, bytes, behind])?;
+    let length = u8::try_from(all.len())?;
     let [_, outer, _, inner, ..] = &mut *all else {
-        panic!(rt; "too short");
+        return Err(Fail::from("too short"));
     };
     *outer = length.wrapping_sub(2);
     if from < usize::from(*inner).saturating_add(4) {
         // an algorithm of five bytes and a signature of three stand behind the signed part
         *inner = length.wrapping_sub(12);
     }
-    &*all
+    Ok(&*all)
 }
 
 /// The bytes of all, one behind the other.
-pub fn joined(rt: &impl Ends, parts: &[&[u8]]) -> &'static mut [u8] {
-    let mut bytes = Vec::new(rt.alloc());
+pub fn joined(alloc: Global, parts: &[&[u8]]) -> Result<&'static mut [u8], Fail> {
+    let mut bytes = Vec::new(alloc);
     for part in parts {
-        bytes.extend_from_slice(*part).expect(rt, "memory");
+        bytes.extend_from_slice(*part)?;
     }
-    bytes.leak()
+    Ok(bytes.leak())
 }
 
 /// A SEQUENCE of these contents.
-pub fn sequence(rt: &impl Ends, parts: &[&[u8]]) -> &'static [u8] {
-    let contents = joined(rt, parts);
-    let length = u8::try_from(contents.len()).expect(rt, "a short length");
-    &*joined(rt, &[&[0x30, length], &*contents])
+pub fn sequence(alloc: Global, parts: &[&[u8]]) -> Result<&'static [u8], Fail> {
+    let contents = joined(alloc, parts)?;
+    let length = u8::try_from(contents.len())?;
+    Ok(&*joined(alloc, &[&[0x30, length], &*contents])?)
 }
 
 /// The value, which is never let go, so that a test owns nothing: whatever it owns at an assertion has to be proved to be
 /// dropped there.
-pub fn kept<'e, T: Drop + 'e>(rt: &impl Ends, value: T) -> &'e T {
-    Box::leak(Box::new(rt.alloc(), value).expect(rt, "memory"))
+pub fn kept<'e, T: Drop + 'e>(alloc: Global, value: T) -> Result<&'e T, Fail> {
+    Ok(Box::leak(Box::new(alloc, value)?))
 }
 
-/// What was made, or the end of the test.
-pub fn made<'e, T: Drop + 'e, E: Debug + Drop>(rt: &impl Ends, made: Result<T, E>) -> &'e T {
-    kept(rt, made.expect(rt, "a value"))
-}
-
-/// What was read, with nothing behind it, or the end of the test.
+/// What was read, with nothing behind it.
 pub fn whole<'e, T: Drop + 'e, E: Debug + Drop>(
-    rt: &impl Ends,
+    alloc: Global,
     read: Result<(&[u8], T), E>,
-) -> &'e T {
+) -> Result<&'e T, Fail> {
     match read {
-        Ok(([], value)) => kept(rt, value),
-        Ok(_) => panic!(rt; "bytes behind it"),
-        Err(e) => panic!(rt; "refused: {e:?}"),
+        Ok(([], value)) => kept(alloc, value),
+        Ok(_) => Err(Fail::from("bytes behind it")),
+        Err(e) => Err(Fail::from(e)),
     }
 }
 
 /// Whether the value is shown so.
-pub fn shows<D: Display>(rt: &impl Ends, value: &D, wanted: &str) -> bool {
-    let shown = made(rt, format!(in rt.alloc(); "{value}"));
-    shown.as_str() == wanted
+pub fn shows<D: Display>(alloc: Global, value: &D, wanted: &str) -> Result<bool, Fail> {
+    let shown = format!(in alloc; "{value}")?;
+    Ok(shown.as_str() == wanted)
 }
 
 /// Why the bytes are no certificate, and why they are none to the strict reader.
@@ -114,7 +109,7 @@ const REPEATED: &[u8] =
       \x06\x01\x2C\x01\x01\xFF\x04\x00\x30\x08\x06\x01\x2C\x01\x01\xFF\x04\x00";
 
 /// A certificate with the extensions 1.2, 1.3, 1.2, 1.4 and 1.4.
-pub fn repeated(rt: &impl Ends) -> &'static X509Certificate<'static> {
-    let bytes = replaced(rt, EXTENDED_BYTES, EXTENSIONS, REPEATED);
-    whole(rt, parse_x509_certificate(rt.alloc(), bytes))
+pub fn repeated(alloc: Global) -> Result<&'static X509Certificate<'static>, Fail> {
+    let bytes = replaced(alloc, EXTENDED_BYTES, EXTENSIONS, REPEATED)?;
+    whole(alloc, parse_x509_certificate(alloc, bytes))
 }

@@ -2,12 +2,13 @@
 
 use super::fixtures::{
     ALGORITHM, BITS, EXTENDED_BYTES, EXTENSIONS, KEY, PLAIN_BYTES, Place, SERIAL, VERSION, joined,
-    made, refusals, replaced,
+    kept, refusals, replaced,
 };
 use super::lists::PLAIN_LIST;
 use super::requests::PLAIN_REQUEST;
 use crate::prelude::*;
 use std::alloc::Global;
+use std::test::Fail;
 use x509_der::{BerError, Err, ErrorKind, Tries};
 
 const TAG: X509Error = X509Error::Der(BerError::InvalidTag);
@@ -20,7 +21,7 @@ fn fronts(rt: HostRuntime) {
         for length in 0..whole.len() {
             let front = whole.get(..length).unwrap_or_default();
             let wanted = [Some(Err::Incomplete); 2];
-            assert!(rt; refusals(rt.alloc(), front) == wanted, "at {length}");
+            assert_eq!(rt; refusals(rt.alloc(), front), wanted, "at {length}");
         }
     }
 }
@@ -40,7 +41,7 @@ const FIRST_HEADERS: [(&[u8], Err<X509Error>); 8] = [
 fn first_headers(rt: HostRuntime) {
     for (bytes, refusal) in FIRST_HEADERS {
         let wanted = [Some(refusal); 2];
-        assert!(rt; refusals(rt.alloc(), bytes) == wanted, "at {bytes:?}");
+        assert_eq!(rt; refusals(rt.alloc(), bytes), wanted, "at {bytes:?}");
     }
 }
 
@@ -52,14 +53,14 @@ fn wrong_lengths(rt: HostRuntime) {
         let mut bytes = *PLAIN_BYTES;
         bytes[3] = length;
         let read = parse_x509_certificate(rt.alloc(), &bytes);
-        assert!(rt; read.err() == Some(refusal), "at {length}");
+        assert_eq!(rt; read.err(), Some(refusal), "at {length}");
     }
     // an extension longer than its list
     let mut bytes = *EXTENDED_BYTES;
     bytes[68] = 0x1e;
     let read = parse_x509_certificate(rt.alloc(), &bytes);
     let refusal = Err::Error(X509Error::NomError(ErrorKind::Eof));
-    assert!(rt; read.err() == Some(refusal));
+    assert_eq!(rt; read.err(), Some(refusal));
 }
 
 const UNREADABLE: [(Place, &[u8], X509Error); 7] = [
@@ -74,12 +75,13 @@ const UNREADABLE: [(Place, &[u8], X509Error); 7] = [
 ];
 
 #[test]
-fn unreadable_fields(rt: HostRuntime) {
+fn unreadable_fields(rt: HostRuntime) -> Result<(), Fail> {
     for (place, bytes, error) in UNREADABLE {
-        let whole = replaced(&rt, PLAIN_BYTES, place, bytes);
+        let whole = replaced(rt.alloc(), PLAIN_BYTES, place, bytes)?;
         let wanted = [Some(Err::Error(error)); 2];
-        assert!(rt; refusals(rt.alloc(), whole) == wanted, "at {bytes:?}");
+        assert_eq!(rt; refusals(rt.alloc(), whole), wanted, "at {bytes:?}");
     }
+    Ok(())
 }
 
 const CRITICAL: &[u8] = b"\xA3\x10\x30\x0E\x30\x0C\x06\x03\x55\x1D\x13\x01\x01\xFF\x04\x02\x30\x00";
@@ -98,18 +100,20 @@ const PLAINLY: [(&[u8], Place, &[u8]); 6] = [
 ];
 
 #[test]
-fn plain(rt: HostRuntime) {
+fn plain(rt: HostRuntime) -> Result<(), Fail> {
     for (sample, place, bytes) in PLAINLY {
-        let whole = replaced(&rt, sample, place, bytes);
+        let whole = replaced(rt.alloc(), sample, place, bytes)?;
         // bytes behind the certificate are none of its own
         for tail in [b"".as_slice(), b"\x05\x00"] {
-            let longer = &*joined(&rt, &[whole, tail]);
-            let loose = made(&rt, parse_x509_certificate(rt.alloc(), longer));
-            let strict = made(&rt, parse_x509_certificate_strict(rt.alloc(), longer));
+            let longer = &*joined(rt.alloc(), &[whole, tail])?;
+            let loose = kept(rt.alloc(), parse_x509_certificate(rt.alloc(), longer)?)?;
+            let strict = parse_x509_certificate_strict(rt.alloc(), longer)?;
+            let strict = kept(rt.alloc(), strict)?;
             assert!(rt; strict.1 == loose.1 && strict.0 == loose.0, "at {bytes:?}");
-            assert!(rt; strict.0 == tail);
+            assert_eq!(rt; strict.0, tail);
         }
     }
+    Ok(())
 }
 
 const BY_BASIC_RULES: &[u8] =
@@ -139,12 +143,13 @@ const LOOSELY: [(&[u8], Place, &[u8]); 10] = [
 ];
 
 #[test]
-fn loose(rt: HostRuntime) {
+fn loose(rt: HostRuntime) -> Result<(), Fail> {
     for (sample, place, bytes) in LOOSELY {
-        let whole = replaced(&rt, sample, place, bytes);
+        let whole = replaced(rt.alloc(), sample, place, bytes)?;
         let wanted = [None, Some(Err::Error(X509Error::Generic))];
-        assert!(rt; refusals(rt.alloc(), whole) == wanted, "at {bytes:?}");
+        assert_eq!(rt; refusals(rt.alloc(), whole), wanted, "at {bytes:?}");
     }
+    Ok(())
 }
 
 // How many headers a reader looks at, whatever it answers.
@@ -162,7 +167,7 @@ fn headers(rt: HostRuntime) {
     let mut shallow = Tries::new();
     let parser = X509CertificateParser::new().with_deep_parse_extensions(false);
     let read = parser.read(rt.alloc(), &mut shallow, EXTENDED_BYTES);
-    assert!(rt; read.is_ok());
+    assert_eq!(rt; read.err(), None);
     assert!(rt; shallow.count() >= 24 && shallow.count() <= 672);
     let list = looks::<CertificateRevocationList<'_>>(rt.alloc(), PLAIN_LIST);
     assert!(rt; list >= 9 && list <= 272);
@@ -174,7 +179,7 @@ fn headers(rt: HostRuntime) {
 #[test]
 fn soft_fields(rt: HostRuntime) {
     let policies = looks::<PolicyConstraints>(rt.alloc(), b"\x30\x03\x81\x01\x05");
-    assert!(rt; policies == 2);
+    assert_eq!(rt; policies, 2);
     let basic = looks::<BasicConstraints>(rt.alloc(), b"\x30\x03\x02\x01\x05");
-    assert!(rt; basic == 2);
+    assert_eq!(rt; basic, 2);
 }

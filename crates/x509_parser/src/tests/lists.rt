@@ -2,6 +2,7 @@
 
 use super::fixtures::{PLAIN_BYTES, whole};
 use crate::prelude::*;
+use std::test::Fail;
 use x509_der::{Err, UnsignedBytes};
 
 /// A list that is empty wherever it may be: 34 bytes.
@@ -13,34 +14,36 @@ const ONE: &[u8; 56] =
     b"\x30\x36\x30\x2C\x30\x03\x06\x01\x2A\x30\x00\x17\x0D700101000000Z\x30\x14\x30\x12\x02\x01\x2A\x17\x0D700101000000Z\x30\x03\x06\x01\x2A\x03\x01\x00";
 
 #[test]
-fn nothing_revoked(rt: HostRuntime) {
+fn nothing_revoked(rt: HostRuntime) -> Result<(), Fail> {
     let bytes: &[u8] = PLAIN_LIST;
     for list in [
-        whole(&rt, parse_x509_crl(rt.alloc(), bytes)),
-        whole(&rt, parse_crl_der(rt.alloc(), bytes)),
-        whole(&rt, parse_x509_crl_strict(rt.alloc(), bytes)),
+        whole(rt.alloc(), parse_x509_crl(rt.alloc(), bytes))?,
+        whole(rt.alloc(), parse_crl_der(rt.alloc(), bytes))?,
+        whole(rt.alloc(), parse_x509_crl_strict(rt.alloc(), bytes))?,
     ] {
         assert!(rt; list.version().is_none() && list.next_update().is_none());
-        assert!(rt; list.last_update().timestamp() == 0);
+        assert_eq!(rt; list.last_update().timestamp(), 0);
         assert!(rt; list.iter_revoked_certificates().next().is_none());
         assert!(rt; list.extensions().is_empty());
-        assert!(rt; list.as_raw() == bytes);
-        assert!(rt; list.tbs_cert_list.as_ref() == &bytes[2..26]);
+        assert_eq!(rt; list.as_raw(), bytes);
+        assert_eq!(rt; list.tbs_cert_list.as_ref(), &bytes[2..26]);
     }
+    Ok(())
 }
 
 #[test]
-fn one_revoked(rt: HostRuntime) {
+fn one_revoked(rt: HostRuntime) -> Result<(), Fail> {
     let bytes: &[u8] = ONE;
-    let list = whole(&rt, parse_x509_crl(rt.alloc(), bytes));
+    let list = whole(rt.alloc(), parse_x509_crl(rt.alloc(), bytes))?;
     let mut revoked = list.iter_revoked_certificates();
-    let entry = revoked.next().expect(&rt, "an entry");
+    let entry = revoked.next().ok_or("no entry")?;
     assert!(rt; entry.serial().is_u32(42));
-    assert!(rt; entry.revocation_date.timestamp() == 0);
+    assert_eq!(rt; entry.revocation_date.timestamp(), 0);
     assert!(rt; revoked.next().is_none());
     let tbs = &list.tbs_cert_list;
-    assert!(rt; tbs.find_revoked(&UnsignedBytes::new(&[42])) == Some(0));
-    assert!(rt; tbs.find_revoked(&UnsignedBytes::new(&[41])).is_none());
+    assert_eq!(rt; tbs.find_revoked(&UnsignedBytes::new(&[42])), Some(0));
+    assert_eq!(rt; tbs.find_revoked(&UnsignedBytes::new(&[41])), None);
+    Ok(())
 }
 
 #[test]
@@ -53,6 +56,6 @@ fn no_lists(rt: HostRuntime) {
         (b"", Err::Incomplete),
     ] {
         let read = parse_x509_crl(rt.alloc(), bytes);
-        assert!(rt; read.err() == Some(refusal), "at {bytes:?}");
+        assert_eq!(rt; read.err(), Some(refusal), "at {bytes:?}");
     }
 }

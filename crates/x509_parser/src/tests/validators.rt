@@ -1,10 +1,11 @@
 //! Validators, loggers and walks over certificates and lists.
 
-use super::fixtures::{self, EXTENDED_BYTES, Ends, PLAIN_BYTES, whole};
+use super::fixtures::{self, EXTENDED_BYTES, PLAIN_BYTES, whole};
 use super::lists::PLAIN_LIST;
 use crate::prelude::*;
 use crate::visitor::{CertificateRevocationListVisitor, X509CertificateVisitor};
-use std::alloc::Global;
+use std::alloc::{AllocError, Global};
+use std::test::Fail;
 use x509_validators::validate_to_vec;
 
 const UNVERSIONED: &[u8; 101] =
@@ -39,37 +40,37 @@ fn says(report: Report, sound: bool, warnings: &[&str], errors: &[&str]) -> bool
 }
 
 #[test]
-fn certificates(rt: HostRuntime) {
+fn certificates(rt: HostRuntime) -> Result<(), Fail> {
     let warnings = ["Unknown public key type"];
     for (bytes, errors) in CERTIFICATES {
-        let certificate = whole(&rt, parse_x509_certificate(rt.alloc(), bytes));
-        let report = certificate
-            .validate_to_vec(rt.alloc())
-            .expect(&rt, "memory");
+        let certificate = whole(rt.alloc(), parse_x509_certificate(rt.alloc(), bytes))?;
+        let report = certificate.validate_to_vec(rt.alloc())?;
         let told = says(report, errors.is_empty(), &warnings, errors);
         assert!(rt; told, "at {errors:?}");
     }
+    Ok(())
 }
 
 // What a validator of lists says of these members.
 fn report_by<'a, T, V: Validator<'a, Item = &'a [T]>>(
-    rt: &impl Ends,
+    alloc: Global,
     validator: &V,
     members: &'a [T],
-) -> Report {
-    validate_to_vec(rt.alloc(), validator, &members).expect(rt, "memory")
+) -> Result<Report, AllocError> {
+    validate_to_vec(alloc, validator, &members)
 }
 
 /// Both validators of a chain run, whatever the first one answers.
 #[test]
-fn repeated_extensions(rt: HostRuntime) {
-    let extensions = fixtures::repeated(&rt).extensions();
+fn repeated_extensions(rt: HostRuntime) -> Result<(), Fail> {
+    let extensions = fixtures::repeated(rt.alloc())?.extensions();
     let (first, second) = ("Duplicate extension 1.2", "Duplicate extension 1.4");
-    let report = report_by(&rt, &X509ExtensionsValidator, extensions);
+    let report = report_by(rt.alloc(), &X509ExtensionsValidator, extensions)?;
     assert!(rt; says(report, false, &[], &[first, second]));
     let both = chain(X509ExtensionsValidator, X509ExtensionsValidator);
-    let report = report_by(&rt, &both, extensions);
+    let report = report_by(rt.alloc(), &both, extensions)?;
     assert!(rt; says(report, false, &[], &[first, second, first, second]));
+    Ok(())
 }
 
 /// A logger whose second error is refused: nothing is told behind it.
@@ -89,8 +90,8 @@ fn a_refused_message(rt: HostRuntime) {
     );
     let answers = (logger.err("a is odd"), logger.err("b is even"));
     drop(logger);
-    assert!(rt; answers == (Ok(()), Err(X509Error::Generic)));
-    assert!(rt; calls == 2);
+    assert_eq!(rt; answers, (Ok(()), Err(X509Error::Generic)));
+    assert_eq!(rt; calls, 2);
 }
 
 // A warning and an error, as lines.
@@ -101,11 +102,12 @@ fn write_two(bytes: &mut Vec<u8>) -> Result<(), X509Error> {
 }
 
 #[test]
-fn lines_of_a_writer(rt: HostRuntime) {
+fn lines_of_a_writer(rt: HostRuntime) -> Result<(), Fail> {
     let mut bytes = Vec::new(rt.alloc());
-    write_two(&mut bytes).expect(&rt, "two lines");
+    write_two(&mut bytes)?;
     let lines: &[u8] = b"[W] a is odd\n[E] b is even\n";
-    assert!(rt; bytes.as_slice() == lines);
+    assert_eq!(rt; bytes.as_slice(), lines);
+    Ok(())
 }
 
 /// Warns of numbers above ten.
@@ -135,29 +137,28 @@ impl<'a> Validator<'a> for SmallNumbers {
 
 // Whether the validator warns of the number so, tells no error and finds it sound.
 fn warns<'a, V: Validator<'a, Item = u32>>(
-    rt: &impl Ends,
+    alloc: Global,
     validator: &V,
     number: u32,
     warnings: &[&str],
-) -> bool {
-    let mut logger = VecLogger::new(rt.alloc());
-    let sound = validator
-        .validate(rt.alloc(), &number, &mut logger)
-        .expect(rt, "an answer");
-    sound && are(logger.warnings(), warnings) && logger.errors().is_empty()
+) -> Result<bool, X509Error> {
+    let mut logger = VecLogger::new(alloc);
+    let sound = validator.validate(alloc, &number, &mut logger)?;
+    Ok(sound && are(logger.warnings(), warnings) && logger.errors().is_empty())
 }
 
 #[test]
-fn small_numbers(rt: HostRuntime) {
+fn small_numbers(rt: HostRuntime) -> Result<(), Fail> {
     let text = "a is greater than 10";
     let both = chain(SmallNumbers, SmallNumbers);
     for (number, once, twice) in [
         (1, [].as_slice(), [].as_slice()),
         (20, &[text], &[text, text]),
     ] {
-        assert!(rt; warns(&rt, &SmallNumbers, number, once));
-        assert!(rt; warns(&rt, &both, number, twice));
+        assert!(rt; warns(rt.alloc(), &SmallNumbers, number, once)?);
+        assert!(rt; warns(rt.alloc(), &both, number, twice)?);
     }
+    Ok(())
 }
 
 /// Keeps the key's identifier, counts the extensions and the issuers, and may refuse an extension.
@@ -199,19 +200,20 @@ impl X509CertificateVisitor for Keys {
 }
 
 #[test]
-fn walked_certificates(rt: HostRuntime) {
+fn walked_certificates(rt: HostRuntime) -> Result<(), Fail> {
     let bytes: &[u8] = EXTENDED_BYTES;
-    let certificate = whole(&rt, parse_x509_certificate(rt.alloc(), bytes));
+    let certificate = whole(rt.alloc(), parse_x509_certificate(rt.alloc(), bytes))?;
     let mut keys = Keys::default();
-    keys.walk(certificate).expect(&rt, "an answer");
-    assert!(rt; (keys.issuers, keys.extensions) == (1, 1));
-    assert!(rt; keys.identifier.as_slice() == &bytes[78..98]);
+    keys.walk(certificate)?;
+    assert_eq!(rt; (keys.issuers, keys.extensions), (1, 1));
+    assert_eq!(rt; keys.identifier.as_slice(), &bytes[78..98]);
     // a visit that is refused is the last one
     let mut refusing = Keys::default();
     refusing.refusing = true;
-    assert!(rt; refusing.walk(certificate) == Err(X509Error::Generic));
-    assert!(rt; (refusing.issuers, refusing.extensions) == (1, 1));
-    assert!(rt; refusing.identifier == [0; 20]);
+    assert_eq!(rt; refusing.walk(certificate), Err(X509Error::Generic));
+    assert_eq!(rt; (refusing.issuers, refusing.extensions), (1, 1));
+    assert_eq!(rt; refusing.identifier, [0; 20]);
+    Ok(())
 }
 
 /// Counts the dates of a list.
@@ -231,9 +233,10 @@ impl CertificateRevocationListVisitor for Dates {
 }
 
 #[test]
-fn walked_lists(rt: HostRuntime) {
-    let list = whole(&rt, parse_x509_crl(rt.alloc(), PLAIN_LIST));
+fn walked_lists(rt: HostRuntime) -> Result<(), Fail> {
+    let list = whole(rt.alloc(), parse_x509_crl(rt.alloc(), PLAIN_LIST))?;
     let mut dates = Dates(0);
-    dates.walk(list).expect(&rt, "an answer");
-    assert!(rt; dates.0 == 1);
+    dates.walk(list)?;
+    assert_eq!(rt; dates.0, 1);
+    Ok(())
 }
