@@ -8,12 +8,14 @@ ghost use Rattle.x509_der.specs.Promises.{Answers, TriesBounded, ended_early, An
 ghost use Rattle.x509_der.specs.Reading.{AddsAtLeast, strict};
 ghost use Rattle.x509_fields.specs.declared.error.X509Error.TheVariants as x509;
 ghost use Rattle.x509_fields.specs.Errors.{is_x509_memory};
+ghost use Rattle.x509_extensions.specs.Adding.{ReadsMembers};
 ghost use Rattle.x509_extensions.specs.Extension.{extension_of, value_bytes, extension_heads, extension};
 ghost use Rattle.x509_extensions.specs.ExtensionList.{extensions_heads, wrapped_heads, extensions, closes, wrapper_header, wrapped_extensions};
 ghost use Rattle.x509_der.specs.Looks.{behind};
 
 use crate::extension::X509Extension;
 use crate::parser::X509ExtensionParser;
+use crate::reading_depth::{Deep, Depth, Shallow};
 use std::alloc::Global;
 use x509_der::{Class, Err, ErrorKind, Header, Outside, Place, Refused, Sequence, Tries, Window};
 use x509_fields::{X509Error, sequence_at};
@@ -161,46 +163,56 @@ impl X509ExtensionParser {
         Ok((list, plain))
     }
 
-    // As many extensions as stand at the front, and what stands behind them. Room is asked for first: for one in each 32 bytes, and for
-    // eight at most. It is told of no octets outside, so a program has this loop once, whoever asks for the place of a refusal.
+    // As many extensions as stand at the front, and what stands behind them. The loops are told of no octets outside: a program has each once,
+    // whoever asks for the place of a refusal.
+    #[inline(always)]
     fn read_members<'a>(
         &self,
         alloc: Global,
         tries: &mut Tries,
         i: &'a [u8],
     ) -> Result<(&'a [u8], Sequence<X509Extension<'a>>, bool), Err<X509Error>>
-        ensures reads { Answers is_x509_memory true (λ x. (x.0.now, map extension_of x.1)) result
-            ((run (extension self.now.deep_parse_extensions)).read i.now) }
-        ensures marks { IfOk result (λ x. x.2 ≡ marks_of_members (extension self.now.deep_parse_extensions) i.now) }
-        ensures grows { tries.old ≤ tries.new }
-        ensures count { tries.new ≤ tries.old + 8 * length i.now }
-        ensures least { IfOk result (λ x. AddsAtLeast (sum_by extension_heads (map extension_of x.1)) tries.old tries.new) }
-        ensures shallow { self.now.deep_parse_extensions ≡ false
-            → IfOk result (λ x. tries.new + 8 * value_bytes (map extension_of x.1) ≤ tries.old + 8 * length i.now) }
+        ensures { ReadsMembers self.now.deep_parse_extensions i.now tries.old tries.new result }
     {
-        let mut list = match Vec::with_capacity(alloc, i.len().div_ceil(32).min(8)) {
-            Ok(room) => Sequence::from_vec(room),
-            Err(_) => return Err(Err::out_of_memory()),
-        };
-        let mut rest = i;
-        let mut plain = true;
-        while !rest.is_empty() {
-            let place = Place::look(tries, rest);
-            match self.add_at(alloc, tries, &place, &mut list) {
-                Ok(marked) => {
-                    plain &= marked;
-                    rest = place.rest();
+        if self.deep_parse_extensions {
+            members::<Deep>(alloc, tries, i)
+        } else {
+            members::<Shallow>(alloc, tries, i)
+        }
+    }
+}
+
+// The loop over extensions at one depth. Room is asked for first: for one in each 32 bytes, and for eight at most.
+#[inline(never)]
+fn members<'a, D: Depth<'a>>(
+    alloc: Global,
+    tries: &mut Tries,
+    i: &'a [u8],
+) -> Result<(&'a [u8], Sequence<X509Extension<'a>>, bool), Err<X509Error>>
+    ensures { ReadsMembers D.deep i.now tries.old tries.new result }
+{
+    let mut list = match Vec::with_capacity(alloc, i.len().div_ceil(32).min(8)) {
+        Ok(room) => Sequence::from_vec(room),
+        Err(_) => return Err(Err::out_of_memory()),
+    };
+    let mut rest = i;
+    let mut plain = true;
+    while !rest.is_empty() {
+        let place = Place::look(tries, rest);
+        match D::add_at(alloc, tries, &place, &mut list) {
+            Ok(marked) => {
+                plain &= marked;
+                rest = place.rest();
+            }
+            Err(e) => {
+                if e.is_out_of_memory() {
+                    return Err(e);
                 }
-                Err(e) => {
-                    if e.is_out_of_memory() {
-                        return Err(e);
-                    }
-                    return Ok((rest, list, plain));
-                }
+                return Ok((rest, list, plain));
             }
         }
-        Ok((rest, list, plain))
     }
+    Ok((rest, list, plain))
 }
 
 /// Whether the wrapper is a constructed element of context class with this number, and ends where what is left of the structure does.

@@ -1,24 +1,21 @@
 //! Readers of extensions, which look at the values or leave them alone.
 
-ghost use Rattle.std.specs.Prelude.{◌≡◌, ◌≤◌, ◌+◌, ◌-◌, ◌*◌, ◌++◌, ◌∷◌, ⊤, [], true, cond, Err as Refusing, IfOk, IfErr, IsErr, map, length};
+ghost use Rattle.std.specs.Prelude.{◌≡◌, ◌≤◌, ◌+◌, ◌-◌, ◌*◌, ⊤, true, IfOk, IsErr, length};
 ghost use Rattle.x509_der.specs.Looks.{behind, is_element};
 ghost use Rattle.x509_der.specs.Place.{at, outside_of};
 ghost use Rattle.x509_der.specs.Primitives.{is_constructed};
-ghost use Rattle.x509_der.specs.Promises.{OneTryEach, IsForeign, GivesAt, is_excused};
+ghost use Rattle.x509_der.specs.Promises.{OneTryEach, IsForeign, GivesAt};
 ghost use Rattle.x509_der.specs.Leaves.{sequence as leaf_sequence};
 ghost use Rattle.x509_der.specs.Reading.{AddsAtLeast, strict};
-ghost use Rattle.x509_fields.specs.Errors.{is_x509_memory};
-ghost use Rattle.x509_extensions.specs.Adding.{Adds};
 ghost use Rattle.x509_extensions.specs.Extension.{Extension, extension_of, extension_heads, extension_laws, envelope_of, envelope_fields, envelope, extension};
 ghost use Rattle.x509_extensions.specs.Extension.{with_parsed};
 ghost use Rattle.x509_extensions.specs.Parsed.{parsed_of};
 
 use crate::extension::X509Extension;
 use crate::parsed::{ParsedExtension, parse_value};
+use crate::reading_depth::Deep;
 use std::alloc::Global;
-use x509_der::{
-    Err, Fields, Oid, Outside, Place, Reader, Refused, Sequence, Tries, converted, named, ok,
-};
+use x509_der::{Fields, Oid, Outside, Place, Reader, Refused, Tries, converted, named};
 use x509_fields::{X509Error, sequence_at};
 
 /// Reads extensions, with or without what their values say.
@@ -27,7 +24,7 @@ use x509_fields::{X509Error, sequence_at};
 /// can't be read. A shallow one leaves every value [`ParsedExtension::Unparsed`] and tries no header inside it.
 #[derive(Clone, Copy, Debug)]
 pub struct X509ExtensionParser {
-    deep_parse_extensions: bool,
+    pub(crate) deep_parse_extensions: bool,
 }
 
 impl Default for X509ExtensionParser {
@@ -58,43 +55,6 @@ impl X509ExtensionParser {
         X509ExtensionParser {
             deep_parse_extensions,
         }
-    }
-
-    // Puts the extension at a place that was looked at behind those of the list, and tells whether it stands plainly. One whose value is
-    // looked at and one whose value isn't are put there each by a call of its own, so that no value is moved that may be either.
-    #[inline(always)]
-    #[tactic(auto, unfolding(crate::specs::Extension::extension))]
-    pub(crate) fn add_at<'a, L: Outside>(
-        &self,
-        alloc: Global,
-        tries: &mut Tries,
-        place: &Place<'a, L>,
-        list: &mut Sequence<X509Extension<'a>>,
-    ) -> Result<bool, Err<X509Error>>
-        ensures added { IfOk result
-            (λ plain. Adds self.now.deep_parse_extensions (at place.now) (map extension_of list.old) (map extension_of list.new) plain tries.old tries.new) }
-        ensures refused { IfErr result
-            (λ e. cond (is_excused is_x509_memory true e) ⊤ ((extension self.now.deep_parse_extensions).read (at place.now) ≡ Refusing e)) }
-        ensures kept { IfErr result (λ e. cond (is_excused is_x509_memory true e) ⊤ (list.new ≡ list.old)) }
-        ensures grows { tries.old ≤ tries.new }
-        ensures few { tries.new ≤ tries.old + (8 * length (at place.now) - 8) }
-    {
-        let (envelope, envelope_plain) = match read_envelope(tries, place) {
-            Ok(read) => read,
-            Err(e) => return Err(e.why),
-        };
-        if self.deep_parse_extensions {
-            let (value, value_plain) = ok!(parse_value(
-                alloc,
-                tries,
-                &envelope.oid,
-                envelope.value
-            ));
-            ok!(put(list, envelope.with_value(value)));
-            return Ok(value_plain & envelope_plain);
-        }
-        ok!(put(list, envelope.with_value(ParsedExtension::Unparsed)));
-        Ok(envelope_plain)
     }
 }
 
@@ -134,7 +94,7 @@ impl<'a> Reader<'a, X509Error, X509Extension<'a>> for X509ExtensionParser {
         tries: &mut Tries,
         place: &Place<'a, L>,
     ) -> Result<(X509Extension<'a>, bool), Refused<X509Error, L>> {
-        let (envelope, envelope_plain) = read_envelope(tries, place)?;
+        let (envelope, envelope_plain) = read_envelope::<Deep, L>(tries, place)?;
         if !self.deep_parse_extensions {
             return Ok((
                 envelope.with_value(ParsedExtension::Unparsed),
@@ -156,15 +116,15 @@ impl<'a> Reader<'a, X509Error, X509Extension<'a>> for X509ExtensionParser {
 /// An extension whose value isn't looked at.
 #[derive(Clone, Copy)]
 pub(crate) struct Envelope<'a> {
-    oid: Oid<'a>,
+    pub(crate) oid: Oid<'a>,
     critical: bool,
-    value: &'a [u8],
+    pub(crate) value: &'a [u8],
 }
 
 impl<'a> Envelope<'a> {
     // The extension whose value says this.
     #[inline(always)]
-    fn with_value(self, parsed_extension: ParsedExtension<'a>) -> X509Extension<'a>
+    pub(crate) fn with_value(self, parsed_extension: ParsedExtension<'a>) -> X509Extension<'a>
         ensures { extension_of result ≡ with_parsed (envelope_of self.entry) (parsed_of parsed_extension.entry) }
     {
         X509Extension {
@@ -176,10 +136,11 @@ impl<'a> Envelope<'a> {
     }
 }
 
-// The three fields of an extension, with the refusals of each.
+// The three fields of an extension, with the refusals of each; for a depth, so that each loop over extensions has a reader of its own, which LLVM
+// writes into it.
 #[inline(always)]
 #[tactic(auto, unfolding(crate::specs::Extension::envelope_fields), using(x509_der::proofs::Steps::marks_of_fields))]
-fn read_envelope_fields<'a, L: Outside>(
+fn read_envelope_fields<'a, D, L: Outside>(
     tries: &mut Tries,
     place: &Place<'a, L>,
 ) -> Result<(Envelope<'a>, bool), Refused<X509Error, L>>
@@ -210,7 +171,7 @@ fn read_envelope_fields<'a, L: Outside>(
 // The same, with one refusal for all.
 #[inline(always)]
 #[tactic(auto, unfolding(crate::specs::Extension::envelope))]
-fn read_envelope<'a, L: Outside>(
+pub(crate) fn read_envelope<'a, D, L: Outside>(
     tries: &mut Tries,
     place: &Place<'a, L>,
 ) -> Result<(Envelope<'a>, bool), Refused<X509Error, L>>
@@ -224,22 +185,7 @@ fn read_envelope<'a, L: Outside>(
     ensures there { IfOk result (λ _. is_element (at place.now) ≡ true) }
 {
     Ok(named!(
-        read_envelope_fields(tries, place),
+        read_envelope_fields::<D, L>(tries, place),
         X509Error::InvalidExtensions
     ))
-}
-
-// One more extension at the end of the list; the refusal is want of memory.
-#[inline(always)]
-fn put<'a>(
-    list: &mut Sequence<X509Extension<'a>>,
-    extension: X509Extension<'a>,
-) -> Result<(), Err<X509Error>>
-    ensures put { IfOk result (λ _. map extension_of list.new ≡ map extension_of list.old ++ extension_of extension.entry ∷ []) }
-    ensures refused { IfErr result (λ e. is_excused is_x509_memory true e ≡ true) }
-{
-    if list.push(extension).is_err() {
-        return Err(Err::out_of_memory());
-    }
-    Ok(())
 }

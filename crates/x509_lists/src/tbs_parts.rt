@@ -73,13 +73,8 @@ pub(crate) fn read_parts<'a, R: Entries<'a>, L: Outside>(
         Ok((fields, revoked)) => (fields, revoked),
         Err(e) => return Err(e),
     };
-    let parser = X509ExtensionParser::new();
-    let (extensions, extensions_plain) = match parser.read_wrapped_at(
-        alloc,
-        tries,
-        0,
-        &fields.place,
-    ) {
+    let closing = X509ExtensionParser::new().read_wrapped_at(alloc, tries, 0, &fields.place);
+    let (extensions, extensions_plain) = match closing {
         Ok((extensions, plain)) => (extensions, plain),
         Err(e) => return Err(e),
     };

@@ -1,11 +1,11 @@
 //! The objects of PEM blocks (RFC 7468).
 
-ghost use Rattle.std.specs.Prelude.{◌≡◌, IfOk, option_map};
+ghost use Rattle.std.specs.Prelude.{◌≡◌, option_map};
 ghost use Rattle.x509_report_objects.specs.Attempts.{found_of, wishes_of};
 ghost use Rattle.x509_report.specs.Files.{block_told, kind_told, symbols_told, task_of, whole_told};
 ghost use Rattle.x509_report.specs.Labels.{kind_in, kind_labelled, label_text, only, wants_any};
 ghost use Rattle.x509_report.specs.Objects.{asks_of};
-ghost use Rattle.x509_report.specs.Told.{Tells};
+ghost use Rattle.x509_report.specs.Told.{PrintsTold};
 
 use crate::options::Asked;
 use crate::printer::Printer;
@@ -80,10 +80,8 @@ fn report_symbols<W: Write>(
     place: &Found<'_>,
     symbols: &[u8],
 ) -> Result<bool, Stop>
-    ensures lines { Tells result (W.contents printer.old.out) (W.contents printer.new.out)
-        (symbols_told (asks_of asked.now) printer.old.form (found_of place.now) symbols.now).lines }
-    ensures taken { IfOk result (λ taken. taken ≡ (symbols_told (asks_of asked.now) printer.old.form (found_of place.now) symbols.now).taken) }
-    ensures form { printer.new.form ≡ printer.old.form }
+    ensures { PrintsTold W.contents printer.old printer.new
+        (symbols_told (asks_of asked.now) printer.old.form (found_of place.now) symbols.now) result }
 {
     match STANDARD.decode(alloc, symbols) {
         Ok(octets) => report_object(alloc, printer, asked, place, &octets),
@@ -108,10 +106,7 @@ fn report_wanted<W: Write>(
     place: &Found<'_>,
     block: &Block<'_>,
 ) -> Result<bool, Stop>
-    ensures lines { Tells result (W.contents printer.old.out) (W.contents printer.new.out)
-        (whole_told (asks_of asked.now) printer.old.form (found_of place.now) block.now).lines }
-    ensures taken { IfOk result (λ taken. taken ≡ (whole_told (asks_of asked.now) printer.old.form (found_of place.now) block.now).taken) }
-    ensures form { printer.new.form ≡ printer.old.form }
+    ensures { PrintsTold W.contents printer.old printer.new (whole_told (asks_of asked.now) printer.old.form (found_of place.now) block.now) result }
 {
     let symbols = block.symbols();
     if !wants_any(&asked.wishes) {
@@ -132,10 +127,8 @@ fn report_kind<W: Write>(
     block: &Block<'_>,
     kind: Option<Kind>,
 ) -> Result<bool, Stop>
-    ensures lines { Tells result (W.contents printer.old.out) (W.contents printer.new.out)
-        (kind_told (asks_of asked.now) printer.old.form (found_of place.now) block.now kind).lines }
-    ensures taken { IfOk result (λ taken. taken ≡ (kind_told (asks_of asked.now) printer.old.form (found_of place.now) block.now kind).taken) }
-    ensures form { printer.new.form ≡ printer.old.form }
+    ensures { PrintsTold W.contents printer.old printer.new
+        (kind_told (asks_of asked.now) printer.old.form (found_of place.now) block.now kind) result }
 {
     match kind {
         Some(kind) => {
@@ -160,10 +153,7 @@ pub fn report_block<W: Write>(
     index: usize,
     block: &Block<'_>,
 ) -> Result<bool, Stop>
-    ensures lines { Tells result (W.contents printer.old.out) (W.contents printer.new.out)
-        (block_told (task_of asked.now printer.old.form file.now) index block.now).lines }
-    ensures taken { IfOk result (λ taken. taken ≡ (block_told (task_of asked.now printer.old.form file.now) index block.now).taken) }
-    ensures form { printer.new.form ≡ printer.old.form }
+    ensures { PrintsTold W.contents printer.old printer.new (block_told (task_of asked.now printer.old.form file.now) index block.now) result }
 {
     let label = label_text(block.label());
     let place = Found {

@@ -10,7 +10,7 @@ ghost use Rattle.x509_report_objects.specs.Attempts.{wishes_of};
 ghost use Rattle.x509_report.specs.Dumps.{count_found, count_in, dump_lines, found_lines, held, holds, mark_behind, mark_in, mark_text};
 ghost use Rattle.x509_report.specs.Dumps.{marked_lines, marks_behind, part_of, part_word, value_mark, value_marks};
 ghost use Rattle.x509_report.specs.Dumps.{refusal_of, seen_by, seen_where, view_of};
-ghost use Rattle.x509_report.specs.Told.{Tells};
+ghost use Rattle.x509_report.specs.Told.{Prints, Tells};
 
 use crate::printer::Printer;
 use crate::stop::Stop;
@@ -344,9 +344,8 @@ fn report_lines<W: Write>(
     values: &[RefusedValue],
     octets: &[u8],
 ) -> Result<(), Stop>
-    ensures lines { Tells result (W.contents printer.old.out) (W.contents printer.new.out)
-        (marked_lines view.now octets.now values.now (elements_of (part_of view.now) octets.now)) }
-    ensures form { printer.new.form ≡ printer.old.form }
+    ensures { Prints W.contents printer.old printer.new
+        (marked_lines view.now octets.now values.now (elements_of (part_of view.now) octets.now)) result }
 {
     let mut left = values;
     for found in dump(alloc, part_of(view), octets) {
@@ -364,8 +363,7 @@ pub fn report_view<W: Write>(
     view: &View,
     octets: &[u8],
 ) -> Result<(), Stop>
-    ensures lines { Tells result (W.contents printer.old.out) (W.contents printer.new.out) (dump_lines view.now octets.now) }
-    ensures form { printer.new.form ≡ printer.old.form }
+    ensures { Prints W.contents printer.old printer.new (dump_lines view.now octets.now) result }
 {
     let values = refused_values(alloc, part_of(view), octets)?;
     report_lines(alloc, printer, view, values.as_slice(), octets)

@@ -3,7 +3,7 @@
 ghost use Rattle.std.specs.Prelude.{◌≡◌, ◌++◌, ◌<◌, ◌^◌, IfOk, IfErr, IfSome, flat_map, length, map};
 ghost use Rattle.x509_report.specs.Files.{StopsInFile, TellsFile, blocks_told, choice, der_told, elements_told, may_be_der, neither_told, other_told};
 ghost use Rattle.x509_report.specs.Files.{rest_told, task_of};
-ghost use Rattle.x509_report.specs.Told.{Tells};
+ghost use Rattle.x509_report.specs.Told.{PrintsTold};
 ghost use Rattle.x509_report.specs.declared.stop.Stop.{Stop};
 
 use crate::blocks::report_block;
@@ -48,10 +48,8 @@ fn report_elements<W: Write>(
     elements: &[&[u8]],
 ) -> Result<bool, Stop>
     requires { length (flat_map (λ e. e.now) elements.now) < 2 ^ 64 }
-    ensures lines { Tells result (W.contents printer.old.out) (W.contents printer.new.out)
-        (elements_told (task_of asked.now printer.old.form file.now) 0 0 (map (λ e. e.now) elements.now)).lines }
-    ensures taken { IfOk result (λ taken. taken ≡ (elements_told (task_of asked.now printer.old.form file.now) 0 0 (map (λ e. e.now) elements.now)).taken) }
-    ensures form { printer.new.form ≡ printer.old.form }
+    ensures { PrintsTold W.contents printer.old printer.new
+        (elements_told (task_of asked.now printer.old.form file.now) 0 0 (map (λ e. e.now) elements.now)) result }
 {
     let mut offset = 0_u64;
     let mut all = true;
@@ -78,10 +76,7 @@ fn report_rest<W: Write>(
     offset: usize,
     rest: &[u8],
 ) -> Result<bool, Stop>
-    ensures lines { Tells result (W.contents printer.old.out) (W.contents printer.new.out)
-        (rest_told (task_of asked.now printer.old.form file.now) count offset rest.now).lines }
-    ensures taken { IfOk result (λ taken. taken ≡ (rest_told (task_of asked.now printer.old.form file.now) count offset rest.now).taken) }
-    ensures form { printer.new.form ≡ printer.old.form }
+    ensures { PrintsTold W.contents printer.old printer.new (rest_told (task_of asked.now printer.old.form file.now) count offset rest.now) result }
 {
     if rest.is_empty() {
         return Ok(true);
@@ -106,11 +101,8 @@ fn report_der<W: Write>(
     rest: &[u8],
 ) -> Result<bool, Stop>
     requires parts { flat_map (λ e. e.now) elements.now ++ rest.now ≡ octets.now }
-    ensures lines { Tells result (W.contents printer.old.out) (W.contents printer.new.out)
-        (der_told (task_of asked.now printer.old.form file.now) octets.now (map (λ e. e.now) elements.now) rest.now).lines }
-    ensures taken { IfOk result (λ taken. taken ≡ (der_told (task_of asked.now printer.old.form file.now) octets.now
-        (map (λ e. e.now) elements.now) rest.now).taken) }
-    ensures form { printer.new.form ≡ printer.old.form }
+    ensures { PrintsTold W.contents printer.old printer.new
+        (der_told (task_of asked.now printer.old.form file.now) octets.now (map (λ e. e.now) elements.now) rest.now) result }
 {
     let all = report_elements(alloc, printer, asked, file, elements)?;
     let offset = octets.len() - rest.len();
@@ -126,10 +118,7 @@ fn report_blocks<W: Write>(
     file: &str,
     blocks: &[Block<'_>],
 ) -> Result<bool, Stop>
-    ensures lines { Tells result (W.contents printer.old.out) (W.contents printer.new.out)
-        (blocks_told (task_of asked.now printer.old.form file.now) 0 blocks.now).lines }
-    ensures taken { IfOk result (λ taken. taken ≡ (blocks_told (task_of asked.now printer.old.form file.now) 0 blocks.now).taken) }
-    ensures form { printer.new.form ≡ printer.old.form }
+    ensures { PrintsTold W.contents printer.old printer.new (blocks_told (task_of asked.now printer.old.form file.now) 0 blocks.now) result }
 {
     let mut all = true;
     for (index, block) in blocks.iter().enumerate() {
@@ -146,10 +135,7 @@ fn report_neither<W: Write>(
     file: &str,
     octets: &[u8],
 ) -> Result<bool, Stop>
-    ensures lines { Tells result (W.contents printer.old.out) (W.contents printer.new.out)
-        (neither_told (task_of asked.now printer.old.form file.now) octets.now).lines }
-    ensures taken { IfOk result (λ taken. taken ≡ (neither_told (task_of asked.now printer.old.form file.now) octets.now).taken) }
-    ensures form { printer.new.form ≡ printer.old.form }
+    ensures { PrintsTold W.contents printer.old printer.new (neither_told (task_of asked.now printer.old.form file.now) octets.now) result }
 {
     let place = Found {
         file,
@@ -176,10 +162,7 @@ fn report_other<W: Write>(
     file: &str,
     octets: &[u8],
 ) -> Result<bool, Stop>
-    ensures lines { Tells result (W.contents printer.old.out) (W.contents printer.new.out)
-        (other_told (task_of asked.now printer.old.form file.now) octets.now).lines }
-    ensures taken { IfOk result (λ taken. taken ≡ (other_told (task_of asked.now printer.old.form file.now) octets.now).taken) }
-    ensures form { printer.new.form ≡ printer.old.form }
+    ensures { PrintsTold W.contents printer.old printer.new (other_told (task_of asked.now printer.old.form file.now) octets.now) result }
 {
     let blocks = find_blocks(alloc, octets)?;
     if !blocks.is_empty() {
@@ -202,11 +185,8 @@ fn report_parts<W: Write>(
     rest: &[u8],
 ) -> Result<bool, Stop>
     requires parts { flat_map (λ e. e.now) elements.now ++ rest.now ≡ octets.now }
-    ensures lines { Tells result (W.contents printer.old.out) (W.contents printer.new.out)
-        (choice (task_of asked.now printer.old.form file.now) octets.now (map (λ e. e.now) elements.now) rest.now).lines }
-    ensures taken { IfOk result (λ taken. taken ≡ (choice (task_of asked.now printer.old.form file.now) octets.now
-        (map (λ e. e.now) elements.now) rest.now).taken) }
-    ensures form { printer.new.form ≡ printer.old.form }
+    ensures { PrintsTold W.contents printer.old printer.new
+        (choice (task_of asked.now printer.old.form file.now) octets.now (map (λ e. e.now) elements.now) rest.now) result }
 {
     if may_be_der(octets) && !elements.is_empty() {
         report_der(alloc, printer, asked, file, octets, elements, rest)

@@ -5,7 +5,7 @@ ghost use Rattle.std.specs.Str.{IsUtf8};
 ghost use Rattle.json.specs.Lex.{tokens};
 ghost use Rattle.x509_report_lines.specs.Lines.{text_of};
 ghost use Rattle.x509_report.specs.Texts.{article_page, begun, line_text, object_lines};
-ghost use Rattle.x509_report.specs.Told.{Tells};
+ghost use Rattle.x509_report.specs.Told.{Prints};
 
 use crate::options::Form;
 use crate::stop::Stop;
@@ -74,8 +74,7 @@ impl<W: Write> Printer<W> {
     /// Writes a line.
     #[tactic(auto, using(crate::proofs::Leads::writing))]
     pub fn put(&mut self, alloc: Global, line: Line) -> Result<(), Stop>
-        ensures lines { Tells result (W.contents self.old.out) (W.contents self.new.out) (line_text self.old.form line ∷ []) }
-        ensures form { self.new.form ≡ self.old.form }
+        ensures { Prints W.contents self.old self.new (line_text self.old.form line ∷ []) result }
     {
         let mut text = line.into_text();
         match self.form {
@@ -98,8 +97,7 @@ impl<W: Write> Printer<W> {
 
     /// Begins an object.
     fn begin(&mut self) -> Result<(), Stop>
-        ensures lines { Tells result (W.contents self.old.out) (W.contents self.new.out) (begun self.old.form) }
-        ensures form { self.new.form ≡ self.old.form }
+        ensures { Prints W.contents self.old self.new (begun self.old.form) result }
     {
         match self.form {
             Form::Html => self.put_text("<li>\n"),
@@ -109,8 +107,7 @@ impl<W: Write> Printer<W> {
 
     /// Writes the line of an object, with which its item of a page begins.
     pub fn put_object(&mut self, alloc: Global, line: Line) -> Result<(), Stop>
-        ensures lines { Tells result (W.contents self.old.out) (W.contents self.new.out) (object_lines self.old.form line) }
-        ensures form { self.new.form ≡ self.old.form }
+        ensures { Prints W.contents self.old self.new (object_lines self.old.form line) result }
     {
         self.begin()?;
         self.put(alloc, line)
@@ -119,8 +116,7 @@ impl<W: Write> Printer<W> {
     /// Writes a text as it stands.
     #[tactic(auto, using(crate::proofs::Leads::writing))]
     pub fn put_text(&mut self, text: &str) -> Result<(), Stop>
-        ensures lines { Tells result (W.contents self.old.out) (W.contents self.new.out) (text.now ∷ []) }
-        ensures form { self.new.form ≡ self.old.form }
+        ensures { Prints W.contents self.old self.new (text.now ∷ []) result }
     {
         self.out.write_all(text.as_bytes())?;
         Ok(())

@@ -7,7 +7,7 @@ ghost use Rattle.x509_report_objects.specs.Lists.{entry_report};
 ghost use Rattle.x509_report_objects.specs.Objects.{failed_report, object_told, skipped_report};
 ghost use Rattle.x509_report.specs.Objects.{asks_of, dump_behind, entry_lines, fingerprint_of, lines_behind, lines_of_object, list_lines, members_behind};
 ghost use Rattle.x509_report.specs.Texts.{object_said, said};
-ghost use Rattle.x509_report.specs.Told.{Tells, one};
+ghost use Rattle.x509_report.specs.Told.{Prints, PrintsTold, one};
 
 use crate::options::Asked;
 use crate::printer::Printer;
@@ -30,9 +30,8 @@ fn report_entry<W: Write>(
     number: u64,
     entry: &RevokedCertificate<'_>,
 ) -> Result<(), Stop>
-    ensures lines { Tells result (W.contents printer.old.out) (W.contents printer.new.out)
-        ((said printer.old.form (entry_report (found_of place.now) fingerprint.now number (revoked_of entry.now))) ∷ []) }
-    ensures form { printer.new.form ≡ printer.old.form }
+    ensures { Prints W.contents printer.old printer.new
+        ((said printer.old.form (entry_report (found_of place.now) fingerprint.now number (revoked_of entry.now))) ∷ []) result }
 {
     let mut line = printer.line(alloc);
     entry_line(alloc, &mut line, place, fingerprint, number, entry)?;
@@ -47,9 +46,8 @@ fn report_each<W: Write>(
     fingerprint: &Option<[u8; 32]>,
     entries: &[RevokedCertificate<'_>],
 ) -> Result<(), Stop>
-    ensures lines { Tells result (W.contents printer.old.out) (W.contents printer.new.out)
-        (entry_lines printer.old.form (found_of place.now) fingerprint.now 0 (map revoked_of entries.now)) }
-    ensures form { printer.new.form ≡ printer.old.form }
+    ensures { Prints W.contents printer.old printer.new
+        (entry_lines printer.old.form (found_of place.now) fingerprint.now 0 (map revoked_of entries.now)) result }
 {
     for (number, entry) in entries.iter().enumerate() {
         report_entry(alloc, printer, place, fingerprint, number as u64, entry)?;
@@ -76,9 +74,7 @@ fn report_entries<W: Write>(
     place: &Found<'_>,
     octets: &[u8],
 ) -> Result<(), Stop>
-    ensures lines { Tells result (W.contents printer.old.out) (W.contents printer.new.out)
-        (list_lines printer.old.form fingerprints (found_of place.now) octets.now) }
-    ensures form { printer.new.form ≡ printer.old.form }
+    ensures { Prints W.contents printer.old printer.new (list_lines printer.old.form fingerprints (found_of place.now) octets.now) result }
 {
     let fingerprint = fingerprint(fingerprints, octets);
     match parse_x509_crl_marked(alloc, octets) {
@@ -103,9 +99,8 @@ fn report_members<W: Write>(
     octets: &[u8],
     kind: Option<Kind>,
 ) -> Result<(), Stop>
-    ensures lines { Tells result (W.contents printer.old.out) (W.contents printer.new.out)
-        (members_behind (asks_of asked.now) printer.old.form (found_of place.now) octets.now kind) }
-    ensures form { printer.new.form ≡ printer.old.form }
+    ensures { Prints W.contents printer.old printer.new
+        (members_behind (asks_of asked.now) printer.old.form (found_of place.now) octets.now kind) result }
 {
     match kind {
         Some(Kind::List) => if asked.entries {
@@ -124,8 +119,7 @@ fn report_elements_of<W: Write>(
     asked: &Asked,
     octets: &[u8],
 ) -> Result<(), Stop>
-    ensures lines { Tells result (W.contents printer.old.out) (W.contents printer.new.out) (dump_behind (asks_of asked.now) printer.old.form octets.now) }
-    ensures form { printer.new.form ≡ printer.old.form }
+    ensures { Prints W.contents printer.old printer.new (dump_behind (asks_of asked.now) printer.old.form octets.now) result }
 {
     if asked.dump {
         report_dump(alloc, printer, &asked.wishes, octets)
@@ -143,9 +137,8 @@ fn report_behind<W: Write>(
     octets: &[u8],
     kind: Option<Kind>,
 ) -> Result<(), Stop>
-    ensures lines { Tells result (W.contents printer.old.out) (W.contents printer.new.out)
-        (lines_behind (asks_of asked.now) printer.old.form (found_of place.now) octets.now kind) }
-    ensures form { printer.new.form ≡ printer.old.form }
+    ensures { Prints W.contents printer.old printer.new
+        (lines_behind (asks_of asked.now) printer.old.form (found_of place.now) octets.now kind) result }
 {
     report_members(alloc, printer, asked, place, octets, kind)?;
     report_elements_of(alloc, printer, asked, octets)
@@ -160,9 +153,8 @@ fn report_line<W: Write>(
     octets: &[u8],
 ) -> Result<Option<Kind>, Stop>
     ensures kind { IfOk result (λ kind. kind ≡ (object_told (wishes_of wishes.now) (found_of place.now) octets.now).0) }
-    ensures lines { Tells result (W.contents printer.old.out) (W.contents printer.new.out)
-        (object_said printer.old.form (object_told (wishes_of wishes.now) (found_of place.now) octets.now).1) }
-    ensures form { printer.new.form ≡ printer.old.form }
+    ensures prints { Prints W.contents printer.old printer.new
+        (object_said printer.old.form (object_told (wishes_of wishes.now) (found_of place.now) octets.now).1) result }
 {
     let mut line = printer.line(alloc);
     let kind = object_line(alloc, &mut line, wishes, place, octets)?;
@@ -178,10 +170,8 @@ pub fn report_object<W: Write>(
     place: &Found<'_>,
     octets: &[u8],
 ) -> Result<bool, Stop>
-    ensures lines { Tells result (W.contents printer.old.out) (W.contents printer.new.out)
-        (lines_of_object (asks_of asked.now) printer.old.form (found_of place.now) octets.now).lines }
-    ensures taken { IfOk result (λ taken. taken ≡ (lines_of_object (asks_of asked.now) printer.old.form (found_of place.now) octets.now).taken) }
-    ensures form { printer.new.form ≡ printer.old.form }
+    ensures { PrintsTold W.contents printer.old printer.new
+        (lines_of_object (asks_of asked.now) printer.old.form (found_of place.now) octets.now) result }
 {
     let kind = report_line(alloc, printer, &asked.wishes, place, octets)?;
     report_behind(alloc, printer, asked, place, octets, kind)?;
@@ -198,11 +188,8 @@ pub fn report_failed<W: Write>(
     kind: &str,
     word: &str,
 ) -> Result<bool, Stop>
-    ensures lines { Tells result (W.contents printer.old.out) (W.contents printer.new.out)
-        (one printer.old.form false (failed_report (wishes_of asked.now.wishes) (found_of place.now) octets.now kind.now word.now)).lines }
-    ensures taken { IfOk result (λ taken. taken ≡ (one printer.old.form false
-        (failed_report (wishes_of asked.now.wishes) (found_of place.now) octets.now kind.now word.now)).taken) }
-    ensures form { printer.new.form ≡ printer.old.form }
+    ensures { PrintsTold W.contents printer.old printer.new
+        (one printer.old.form false (failed_report (wishes_of asked.now.wishes) (found_of place.now) octets.now kind.now word.now)) result }
 {
     let mut line = printer.line(alloc);
     failed_line(alloc, &mut line, &asked.wishes, place, octets, kind, word)?;
@@ -218,11 +205,8 @@ pub fn report_skipped<W: Write>(
     place: &Found<'_>,
     octets: &[u8],
 ) -> Result<bool, Stop>
-    ensures lines { Tells result (W.contents printer.old.out) (W.contents printer.new.out)
-        (one printer.old.form true (skipped_report (wishes_of asked.now.wishes) (found_of place.now) octets.now)).lines }
-    ensures taken { IfOk result (λ taken. taken ≡ (one printer.old.form true
-        (skipped_report (wishes_of asked.now.wishes) (found_of place.now) octets.now)).taken) }
-    ensures form { printer.new.form ≡ printer.old.form }
+    ensures { PrintsTold W.contents printer.old printer.new
+        (one printer.old.form true (skipped_report (wishes_of asked.now.wishes) (found_of place.now) octets.now)) result }
 {
     let mut line = printer.line(alloc);
     skipped_line(alloc, &mut line, &asked.wishes, place, octets)?;

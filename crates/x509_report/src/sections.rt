@@ -7,7 +7,7 @@ ghost use Rattle.x509_dump.specs.PageElements.{element_page, open_behind};
 ghost use Rattle.x509_report.specs.Dumps.{count_found, part_of, view_of};
 ghost use Rattle.x509_report.specs.Sections.{dump_told, found_section, mark_at, mark_behind, mark_in, mark_words, opened_by, section_end};
 ghost use Rattle.x509_report.specs.Sections.{section_lines, section_page, value_mark, value_marks, value_words};
-ghost use Rattle.x509_report.specs.Told.{Tells};
+ghost use Rattle.x509_report.specs.Told.{Prints, Tells};
 
 use crate::dumps::{View, behind, count_in, holds, part_of, part_word, report_view, view_of};
 use crate::options::Form;
@@ -200,9 +200,8 @@ fn report_lines<W: Write>(
     values: &[RefusedValue],
     octets: &[u8],
 ) -> Result<(), Stop>
-    ensures lines { Tells result (W.contents printer.old.out) (W.contents printer.new.out)
-        (section_lines view.now octets.now values.now 0 (elements_of (part_of view.now) octets.now)) }
-    ensures form { printer.new.form ≡ printer.old.form }
+    ensures { Prints W.contents printer.old printer.new
+        (section_lines view.now octets.now values.now 0 (elements_of (part_of view.now) octets.now)) result }
 {
     let mut left = values;
     let mut opened = 0;
@@ -222,8 +221,7 @@ fn report_section<W: Write>(
     view: &View,
     octets: &[u8],
 ) -> Result<(), Stop>
-    ensures lines { Tells result (W.contents printer.old.out) (W.contents printer.new.out) (section_page view.now octets.now) }
-    ensures form { printer.new.form ≡ printer.old.form }
+    ensures { Prints W.contents printer.old printer.new (section_page view.now octets.now) result }
 {
     let values = refused_values(alloc, part_of(view), octets)?;
     printer.put_text("<section>\n")?;
@@ -237,9 +235,7 @@ pub fn report_dump<W: Write>(
     wishes: &Wishes,
     octets: &[u8],
 ) -> Result<(), Stop>
-    ensures lines { Tells result (W.contents printer.old.out) (W.contents printer.new.out)
-        (dump_told printer.old.form (view_of (wishes_of wishes.now) octets.now) octets.now) }
-    ensures form { printer.new.form ≡ printer.old.form }
+    ensures { Prints W.contents printer.old printer.new (dump_told printer.old.form (view_of (wishes_of wishes.now) octets.now) octets.now) result }
 {
     let view = view_of(alloc, wishes, octets)?;
     match printer.form() {

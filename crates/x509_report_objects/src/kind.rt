@@ -67,7 +67,7 @@ impl Kind {
 }
 
 /// What a line may tell of.
-pub(crate) trait Object<'a>: Sized + Drop {
+pub(crate) trait Reported<'a>: Sized + Drop {
     /// What a value is, without where it lies in memory.
     ghost Value: { Type 0 };
 
@@ -101,7 +101,7 @@ pub(crate) trait Object<'a>: Sized + Drop {
         ensures { result ≡ telling.refuses (view self.now) };
 }
 
-impl<'a> Object<'a> for X509Certificate<'a> {
+impl<'a> Reported<'a> for X509Certificate<'a> {
     ghost Value = { Certificate };
 
     ghost view = { certificate_of };
@@ -141,7 +141,7 @@ impl<'a> Object<'a> for X509Certificate<'a> {
     }
 }
 
-impl<'a> Object<'a> for CertificateRevocationList<'a> {
+impl<'a> Reported<'a> for CertificateRevocationList<'a> {
     ghost Value = { Signed TbsList };
 
     ghost view = { list_of };
@@ -181,7 +181,7 @@ impl<'a> Object<'a> for CertificateRevocationList<'a> {
     }
 }
 
-impl<'a> Object<'a> for X509CertificationRequest<'a> {
+impl<'a> Reported<'a> for X509CertificationRequest<'a> {
     ghost Value = { Signed RequestInfo };
 
     ghost view = { certification_request_of };

@@ -11,7 +11,7 @@ ghost use Rattle.x509_report_objects.specs.Leniencies.{first_uses};
 ghost use Rattle.x509_report_objects.specs.Attempts.{Attempts, found_of, refused_of, tried_of, wishes_of};
 
 use crate::errors::refusal_name;
-use crate::kind::{Kind, Object};
+use crate::kind::{Kind, Reported};
 use crate::lenient::{leniencies_under, uses_under, uses_unless};
 use crate::refused_values::{refused_under, some_text};
 use crate::values::{
@@ -164,7 +164,7 @@ fn say_found(alloc: Global, out: &mut Line, part: Part, seen: &Seen<'_>) -> Resu
 
 /// The report of an object.
 #[tactic(auto, unfolding(crate::specs::Objects::object_report), using(crate::proofs::Members::members_end))]
-fn say_object<'a, T: Object<'a>>(
+fn say_object<'a, T: Reported<'a>>(
     alloc: Global,
     out: &mut Line,
     wishes: &Wishes,
@@ -187,7 +187,7 @@ fn say_object<'a, T: Object<'a>>(
 }
 
 /// The object of this kind, where it may be one and is.
-fn try_as<'a, T: Object<'a>>(
+fn try_as<'a, T: Reported<'a>>(
     alloc: Global,
     out: &mut Line,
     wishes: &Wishes,

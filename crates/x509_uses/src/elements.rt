@@ -1,11 +1,12 @@
 //! Reading elements that are no certificates, and looking identifiers up.
 
-ghost use Rattle.std.specs.Prelude.{◌≡◌};
+ghost use Rattle.std.specs.Prelude.{◌≡◌, ℕ, List, IfOk};
 ghost use Rattle.std.specs.Option.{is_some};
+ghost use Rattle.x509_der.specs.Cut.{Cut};
 ghost use Rattle.x509_der.specs.Oid.{oid_bytes};
-ghost use Rattle.x509_der.specs.Reading.{Gives};
+ghost use Rattle.x509_der.specs.Reading.{Element, Gives};
 ghost use Rattle.x509_names.specs.Registry.{registered};
-ghost use Rattle.x509_uses.specs.Elements.{identified};
+ghost use Rattle.x509_uses.specs.Elements.{IsOutline, identified};
 
 use std::alloc::{AllocError, Global};
 use x509_parser::der::{
@@ -32,10 +33,9 @@ pub fn is_known(registry: &OidRegistry<'static>, octets: &[u8]) -> bool
 
 /// What stands in a container that no type describes: the headers of its first twelve members, in order, and why no more are
 /// listed.
-pub fn outline<'a>(
-    alloc: Global,
-    contents: &'a [u8],
-) -> Result<(Vec<Header>, Stop<'a>), AllocError> {
+pub fn outline<'a>(alloc: Global, contents: &'a [u8]) -> Result<(Vec<Header>, Stop<'a>), AllocError>
+    ensures { IfOk result (λ x. (members : List Element) (tail : List ℕ) → Cut contents.now members tail → IsOutline contents.now members x.0.items x.1) }
+{
     let children = Children::cut(&mut Tries::new(), contents);
     let mut headers = Vec::new(alloc);
     for k in 0..children.count() {

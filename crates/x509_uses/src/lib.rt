@@ -1,5 +1,5 @@
-//! What a user can conclude from the contracts of the reader: short callers, each with its clause but `outline`, a validator and
-//! visitors. Only the two walks that change nothing have proof files, which apply two lemmas of `x509_fields`, and the path to a fault.
+//! What a user can conclude from the contracts of the reader: short callers, each with its clause, a validator and visitors. Proof files
+//! have the two walks that change nothing, which apply two lemmas of `x509_fields`, the path to a fault, and `outline`, whose members are counted.
 //!
 //! Three words of the contracts below say what a certificate is. `certificate deep` is the grammar, with what the values of
 //! extensions say or without (RFC 5280, section 4.1); `certificate_of` is the value that a certificate in memory stands for;

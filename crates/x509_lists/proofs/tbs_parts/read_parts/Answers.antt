@@ -8,7 +8,7 @@ use Rattle.x509_lists.proofs.tbs_parts.read_parts.Goals as goal
 pub returns : goal.returns
 unfolding tbs_list
 returns g c =
-    let closing = closing_tries _ _ 0 _ _ _ _ refl c.in-Ok-read_next.ensures.count c.in-Ok-read_next.ensures.grows c.in-Ok-read_next.ensures.foreign c.in-Ok-read_wrapped_at.ensures.count c.in-Ok-read_wrapped_at.ensures.foreign in
+    let closing = closing_tries _ _ 0 _ _ _ _ refl c.in-Ok-read_next.ensures.count c.in-Ok-read_next.ensures.grows c.in-Ok-read_next.ensures.foreign c.in-Ok-closing.ensures.count c.in-Ok-closing.ensures.foreign in
     record {
       reads = search (rules, marks_of_readers);
       marks = search (rules, marks_of_readers, and_assoc);
@@ -19,10 +19,10 @@ returns g c =
       there = search rules;
     }
 
-pub returns-in-Err-read_wrapped_at : goal.returns-in-Err-read_wrapped_at
+pub returns-in-Err-closing : goal.returns-in-Err-closing
 unfolding tbs_list
-returns-in-Err-read_wrapped_at g c =
-    let closing = closing_tries _ _ 0 _ _ _ _ refl c.in-Ok-read_next.ensures.count c.in-Ok-read_next.ensures.grows c.in-Ok-read_next.ensures.foreign c.in-Err-read_wrapped_at.ensures.count c.in-Err-read_wrapped_at.ensures.foreign in
+returns-in-Err-closing g c =
+    let closing = closing_tries _ _ 0 _ _ _ _ refl c.in-Ok-read_next.ensures.count c.in-Ok-read_next.ensures.grows c.in-Ok-read_next.ensures.foreign c.in-Err-closing.ensures.count c.in-Err-closing.ensures.foreign in
     record {
       reads = search (rules, marks_of_readers);
       marks = search (rules, marks_of_readers);

@@ -1,6 +1,5 @@
 -- Those that were looked at are marked before the end of the line.
 use Rattle.std.proofs.Common.{◌≡◌, ◌+◌, drop, length}
-use Rattle.x509_dump.specs.Elements.{line_of}
 use Rattle.x509_report.specs.Dumps.{count_before}
 use Rattle.x509_report.proofs.dumps.count_in.Given as goal
 

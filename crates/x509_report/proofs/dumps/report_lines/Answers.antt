@@ -1,5 +1,5 @@
 -- One line more, and what stands behind the last.
-use Rattle.std.proofs.Common.{◌≡◌, ◌∷◌, [], ℕ, List, drop, refl, subst, sym, ap, ◌∙◌}
+use Rattle.std.proofs.Common.{◌≡◌, ◌∷◌, [], ℕ, List, drop, refl, subst, sym, ap, ◌∙◌, rules}
 use Rattle.x509_dump.specs.Elements.{elements_of}
 use Rattle.x509_dump.specs.Walks.{IsNext, left}
 use Rattle.x509_report.specs.Dumps.{count_found, found_lines, marked_lines, marks_behind, part_of}
@@ -39,36 +39,42 @@ loop-found-preserved g c =
           (subst (λ n. Leads old new (marked_lines view octets (drop n values) (left t)) whole) (sym c.in_ok-count.ensures.count) one);
     }
 
-pub returns-in_err-count-clause-lines : goal.returns-in_err-count-clause-lines
-returns-in_err-count-clause-lines g c =
-    let view = c.args.view.now in
-    let octets = c.args.octets.now in
-    let s = c.loop-found.found-iterator in
-    let t = c.next.new.self in
-    let next : IsNext s c.in-Some.found t = c.in-Some.ensures.steps in
-    let whole = marked_lines view octets c.args.values.now (elements_of (part_of view) octets) in
-    stops_by c.from_residual.result _ _ _ whole c.from_residual.ensures.1
-    (λ h. found_stop view octets c.loop-found.left.now s t c.in-Some.found _ _ _ whole next c.loop-found.invariant.leads (c.in_err-count.ensures.lines h))
+pub returns-in_err-count : goal.returns-in_err-count
+returns-in_err-count g c = record {
+  lines = (let view = c.args.view.now in
+      let octets = c.args.octets.now in
+      let s = c.loop-found.found-iterator in
+      let t = c.next.new.self in
+      let next : IsNext s c.in-Some.found t = c.in-Some.ensures.steps in
+      let whole = marked_lines view octets c.args.values.now (elements_of (part_of view) octets) in
+      stops_by c.from_residual.result _ _ _ whole c.from_residual.ensures.1
+      (λ h. found_stop view octets c.loop-found.left.now s t c.in-Some.found _ _ _ whole next c.loop-found.invariant.leads (c.in_err-count.ensures.lines h)));
+  form = search rules;
+}
 
-pub returns-clause-lines : goal.returns-clause-lines
+pub returns : goal.returns
 unfolding marked_lines
-returns-clause-lines g c =
-    let view = c.args.view.now in
-    let octets = c.args.octets.now in
-    let values = c.loop-found.left.now in
-    let old = g.W.Write.contents c.args.printer.now.out in
-    let now = g.W.Write.contents c.loop-found.printer.out in
-    let new = g.W.Write.contents c.put_text.new.self.out in
-    let whole = marked_lines view octets c.args.values.now (elements_of (part_of view) octets) in
-    let none : left c.loop-found.found-iterator ≡ [] = c.in-None.ensures.steps in
-    let leads : Leads old now (marks_behind view octets values ∷ []) whole = subst (λ ls. Leads old now (marked_lines view octets values ls) whole) none c.loop-found.invariant.leads in
-    tells_last c.put_text.result old now new (marks_behind view octets values ∷ []) whole leads
-    (subst (λ (t : List ℕ). Tells c.put_text.result now new (t ∷ [])) (c.as_str.ensures.value ∙ c.in_ok-behind.ensures) c.put_text.ensures.lines)
+returns g c = record {
+  lines = (let view = c.args.view.now in
+      let octets = c.args.octets.now in
+      let values = c.loop-found.left.now in
+      let old = g.W.Write.contents c.args.printer.now.out in
+      let now = g.W.Write.contents c.loop-found.printer.out in
+      let new = g.W.Write.contents c.put_text.new.self.out in
+      let whole = marked_lines view octets c.args.values.now (elements_of (part_of view) octets) in
+      let none : left c.loop-found.found-iterator ≡ [] = c.in-None.ensures.steps in
+      let leads : Leads old now (marks_behind view octets values ∷ []) whole = subst (λ ls. Leads old now (marked_lines view octets values ls) whole) none c.loop-found.invariant.leads in
+      tells_last c.put_text.result old now new (marks_behind view octets values ∷ []) whole leads
+      (subst (λ (t : List ℕ). Tells c.put_text.result now new (t ∷ [])) (c.as_str.ensures.value ∙ c.in_ok-behind.ensures) c.put_text.ensures.lines));
+  form = search rules;
+}
 
-pub returns-in_err-behind-clause-lines : goal.returns-in_err-behind-clause-lines
-returns-in_err-behind-clause-lines g c =
-    let view = c.args.view.now in
-    let octets = c.args.octets.now in
-    let rest = marked_lines view octets c.loop-found.left.now (left c.loop-found.found-iterator) in
-    stops_by _ _ _ _ _ c.from_residual-in_err-behind.ensures.1
-    (λ h. leads_stop _ _ _ [] rest rest (marked_lines view octets c.args.values.now (elements_of (part_of view) octets)) refl c.loop-found.invariant.leads (unwritten _ []))
+pub returns-in_err-behind : goal.returns-in_err-behind
+returns-in_err-behind g c = record {
+  lines = (let view = c.args.view.now in
+      let octets = c.args.octets.now in
+      let rest = marked_lines view octets c.loop-found.left.now (left c.loop-found.found-iterator) in
+      stops_by _ _ _ _ _ c.from_residual-in_err-behind.ensures.1
+      (λ h. leads_stop _ _ _ [] rest rest (marked_lines view octets c.args.values.now (elements_of (part_of view) octets)) refl c.loop-found.invariant.leads (unwritten _ [])));
+  form = search rules;
+}

@@ -1,17 +1,19 @@
 -- The values that are marked are those of the object as it is seen.
-use Rattle.std.proofs.Common.{ap, subst, ◌∙◌}
+use Rattle.std.proofs.Common.{ap, subst, ◌∙◌, rules}
 use Rattle.x509_dump.specs.Elements.{elements_of}
 use Rattle.x509_refused_values.specs.RefusedValues.{refused_values}
 use Rattle.x509_report.specs.Dumps.{dump_lines, marked_lines, part_of}
 use Rattle.x509_report.specs.Told.{Tells}
 use Rattle.x509_report.proofs.dumps.report_view.Goals as goal
 
-pub returns-clause-lines : goal.returns-clause-lines
+pub returns : goal.returns
 unfolding dump_lines
-returns-clause-lines g c =
-    let view = c.args.view.now in
-    let octets = c.args.octets.now in
-    let old = g.W.Write.contents c.args.printer.now.out in
-    let new = g.W.Write.contents c.report_lines.new.printer.out in
-    subst (λ vs. Tells c.report_lines.result old new (marked_lines view octets vs (elements_of (part_of view) octets)))
-    (c.as_slice.ensures.value ∙ c.in_ok-values.ensures ∙ ap (λ p. refused_values p octets) c.part_of.ensures) c.report_lines.ensures.lines
+returns g c = record {
+  lines = (let view = c.args.view.now in
+      let octets = c.args.octets.now in
+      let old = g.W.Write.contents c.args.printer.now.out in
+      let new = g.W.Write.contents c.report_lines.new.printer.out in
+      subst (λ vs. Tells c.report_lines.result old new (marked_lines view octets vs (elements_of (part_of view) octets)))
+      (c.as_slice.ensures.value ∙ c.in_ok-values.ensures ∙ ap (λ p. refused_values p octets) c.part_of.ensures) c.report_lines.ensures.lines);
+  form = search rules;
+}

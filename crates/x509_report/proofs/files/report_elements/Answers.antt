@@ -1,4 +1,4 @@
-use Rattle.std.proofs.Common.{◌≡◌, ◌+◌, Bor, List, ℕ, [], length, get_or, drop, map, subst, ap, sym, ◌∙◌, arith}
+use Rattle.std.proofs.Common.{◌≡◌, ◌+◌, Bor, List, ℕ, [], length, get_or, drop, map, subst, ap, sym, ◌∙◌, arith, rules}
 use Rattle.std.proofs.lemmas.List.{at_drop_more, drop_all, length-append}
 use Rattle.std.specs.List.{flat_map}
 use Rattle.std.specs.Io.KnownBytes.{Appends}
@@ -36,27 +36,28 @@ loop-index-preserved g c =
       size = omega (arith, next, size, c.loop-index.invariant.size);
     }
 
-pub returns-clause-lines : goal.returns-clause-lines
+pub returns : goal.returns
 unfolding elements_told
-returns-clause-lines g c =
-    leads_done _ _ _ _ (ap (λ es. (elements_told (task_of c.args.asked.now c.args.printer.now.form c.args.file.now) c.loop-index.index c.loop-index.offset (map (λ e. e.now) es)).lines) (drop_all c.loop-index.index c.args.elements.now c.loop-index-test.false)) c.loop-index.invariant.leads
+returns g c = record {
+  lines = leads_done _ _ _ _ (ap (λ es. (elements_told (task_of c.args.asked.now c.args.printer.now.form c.args.file.now) c.loop-index.index c.loop-index.offset (map (λ e. e.now) es)).lines) (drop_all c.loop-index.index c.args.elements.now c.loop-index-test.false)) c.loop-index.invariant.leads;
+  taken = taken_done _ _ _ (ap (λ es. elements_told (task_of c.args.asked.now c.args.printer.now.form c.args.file.now) c.loop-index.index c.loop-index.offset (map (λ e. e.now) es)) (drop_all c.loop-index.index c.args.elements.now c.loop-index-test.false)) c.loop-index.invariant.taken;
+  form = search rules;
+}
 
-pub returns-clause-taken : goal.returns-clause-taken
+pub returns-in_err-all : goal.returns-in_err-all
 unfolding elements_told
-returns-clause-taken g c =
-    taken_done _ _ _ (ap (λ es. elements_told (task_of c.args.asked.now c.args.printer.now.form c.args.file.now) c.loop-index.index c.loop-index.offset (map (λ e. e.now) es)) (drop_all c.loop-index.index c.args.elements.now c.loop-index-test.false)) c.loop-index.invariant.taken
-
-pub returns-in_err-all-clause-lines : goal.returns-in_err-all-clause-lines
-unfolding elements_told
-returns-in_err-all-clause-lines g c =
-    let i = c.loop-index.index in
-    let elements = c.args.elements.now in
-    let task = task_of c.args.asked.now c.args.printer.now.form c.args.file.now in
-    let element = (get_or elements i nowhere).now in
-    let rest = map (λ e. e.now) (drop (i + 1) elements) in
-    let first : Told = element_told task i c.loop-index.offset element in
-    let others : Told = elements_told task (i + 1) (c.loop-index.offset + length element) rest in
-    let left : elements_told task i c.loop-index.offset (map (λ e. e.now) (drop i elements)) ≡ both first others =
-    at_drop_more (λ es. elements_told task i c.loop-index.offset (map (λ e. e.now) es)) elements i nowhere c.loop-index-test.true in
-    stops_by _ _ _ _ _ c.from_residual.ensures.1 (λ h. leads_stop _ _ _ first.lines others.lines _ _ (ap (λ t. t.lines) left) c.loop-index.invariant.leads
-    (subst (λ f. WritesFront (g.W.Write.contents c.loop-index.printer.out) (g.W.Write.contents c.report_object.new.printer.out) (lines_of_object task.asks f (element_at task i c.loop-index.offset) element).lines) c.loop-index.invariant.form (c.in_err-all.ensures.lines h)))
+returns-in_err-all g c = record {
+  lines = (let i = c.loop-index.index in
+      let elements = c.args.elements.now in
+      let task = task_of c.args.asked.now c.args.printer.now.form c.args.file.now in
+      let element = (get_or elements i nowhere).now in
+      let rest = map (λ e. e.now) (drop (i + 1) elements) in
+      let first : Told = element_told task i c.loop-index.offset element in
+      let others : Told = elements_told task (i + 1) (c.loop-index.offset + length element) rest in
+      let left : elements_told task i c.loop-index.offset (map (λ e. e.now) (drop i elements)) ≡ both first others =
+      at_drop_more (λ es. elements_told task i c.loop-index.offset (map (λ e. e.now) es)) elements i nowhere c.loop-index-test.true in
+      stops_by _ _ _ _ _ c.from_residual.ensures.1 (λ h. leads_stop _ _ _ first.lines others.lines _ _ (ap (λ t. t.lines) left) c.loop-index.invariant.leads
+      (subst (λ f. WritesFront (g.W.Write.contents c.loop-index.printer.out) (g.W.Write.contents c.report_object.new.printer.out) (lines_of_object task.asks f (element_at task i c.loop-index.offset) element).lines) c.loop-index.invariant.form (c.in_err-all.ensures.lines h))));
+  taken = search rules;
+  form = search rules;
+}

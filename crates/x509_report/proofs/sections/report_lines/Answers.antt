@@ -1,5 +1,5 @@
 -- One line more, and what stands behind the last.
-use Rattle.std.proofs.Common.{◌≡◌, ◌∷◌, [], ℕ, List, drop, refl, subst, sym, ap, ◌∙◌}
+use Rattle.std.proofs.Common.{◌≡◌, ◌∷◌, [], ℕ, List, drop, refl, subst, sym, ap, ◌∙◌, rules}
 use Rattle.x509_dump.specs.Elements.{elements_of}
 use Rattle.x509_dump.specs.Walks.{IsNext, left}
 use Rattle.x509_report.specs.Dumps.{count_found, part_of}
@@ -40,36 +40,42 @@ loop-found-preserved g c =
           (subst (λ n. Leads old new (section_lines view octets (drop (count_found values c.in-Some.found) values) n (left t)) whole) (sym c.in_ok-next.ensures.opened) one));
     }
 
-pub returns-in_err-next-clause-lines : goal.returns-in_err-next-clause-lines
-returns-in_err-next-clause-lines g c =
-    let view = c.args.view.now in
-    let octets = c.args.octets.now in
-    let s = c.loop-found.found-iterator in
-    let t = c.next.new.self in
-    let next : IsNext s c.in-Some.found t = c.in-Some.ensures.steps in
-    let whole = (section_lines view octets c.args.values.now 0 (elements_of (part_of view) octets)) in
-    stops_by c.from_residual.result _ _ _ whole c.from_residual.ensures.1
-    (λ h. found_stop view octets c.loop-found.left.now c.loop-found.opened s t c.in-Some.found _ _ _ whole next c.loop-found.invariant.leads (c.in_err-next.ensures.lines h))
+pub returns-in_err-next : goal.returns-in_err-next
+returns-in_err-next g c = record {
+  lines = (let view = c.args.view.now in
+      let octets = c.args.octets.now in
+      let s = c.loop-found.found-iterator in
+      let t = c.next.new.self in
+      let next : IsNext s c.in-Some.found t = c.in-Some.ensures.steps in
+      let whole = (section_lines view octets c.args.values.now 0 (elements_of (part_of view) octets)) in
+      stops_by c.from_residual.result _ _ _ whole c.from_residual.ensures.1
+      (λ h. found_stop view octets c.loop-found.left.now c.loop-found.opened s t c.in-Some.found _ _ _ whole next c.loop-found.invariant.leads (c.in_err-next.ensures.lines h)));
+  form = search rules;
+}
 
-pub returns-clause-lines : goal.returns-clause-lines
+pub returns : goal.returns
 unfolding section_lines
-returns-clause-lines g c =
-    let view = c.args.view.now in
-    let octets = c.args.octets.now in
-    let opened = c.loop-found.opened in
-    let old = g.W.Write.contents c.args.printer.now.out in
-    let now = g.W.Write.contents c.loop-found.printer.out in
-    let new = g.W.Write.contents c.put_text.new.self.out in
-    let whole = (section_lines view octets c.args.values.now 0 (elements_of (part_of view) octets)) in
-    let none : left c.loop-found.found-iterator ≡ [] = c.in-None.ensures.steps in
-    let leads : Leads old now (section_end view octets c.loop-found.left.now opened ∷ []) whole = subst (λ ls. Leads old now (section_lines view octets c.loop-found.left.now opened ls) whole) none c.loop-found.invariant.leads in
-    tells_last c.put_text.result old now new (section_end view octets c.loop-found.left.now opened ∷ []) whole leads
-    (subst (λ (t : List ℕ). Tells c.put_text.result now new (t ∷ [])) (c.as_str.ensures.value ∙ c.in_ok-text.ensures) c.put_text.ensures.lines)
+returns g c = record {
+  lines = (let view = c.args.view.now in
+      let octets = c.args.octets.now in
+      let opened = c.loop-found.opened in
+      let old = g.W.Write.contents c.args.printer.now.out in
+      let now = g.W.Write.contents c.loop-found.printer.out in
+      let new = g.W.Write.contents c.put_text.new.self.out in
+      let whole = (section_lines view octets c.args.values.now 0 (elements_of (part_of view) octets)) in
+      let none : left c.loop-found.found-iterator ≡ [] = c.in-None.ensures.steps in
+      let leads : Leads old now (section_end view octets c.loop-found.left.now opened ∷ []) whole = subst (λ ls. Leads old now (section_lines view octets c.loop-found.left.now opened ls) whole) none c.loop-found.invariant.leads in
+      tells_last c.put_text.result old now new (section_end view octets c.loop-found.left.now opened ∷ []) whole leads
+      (subst (λ (t : List ℕ). Tells c.put_text.result now new (t ∷ [])) (c.as_str.ensures.value ∙ c.in_ok-text.ensures) c.put_text.ensures.lines));
+  form = search rules;
+}
 
-pub returns-in_err-text-clause-lines : goal.returns-in_err-text-clause-lines
-returns-in_err-text-clause-lines g c =
-    let view = c.args.view.now in
-    let octets = c.args.octets.now in
-    let rest = section_lines view octets c.loop-found.left.now c.loop-found.opened (left c.loop-found.found-iterator) in
-    stops_by _ _ _ _ _ c.from_residual-in_err-text.ensures.1
-    (λ h. leads_stop _ _ _ [] rest rest ((section_lines view octets c.args.values.now 0 (elements_of (part_of view) octets))) refl c.loop-found.invariant.leads (unwritten _ []))
+pub returns-in_err-text : goal.returns-in_err-text
+returns-in_err-text g c = record {
+  lines = (let view = c.args.view.now in
+      let octets = c.args.octets.now in
+      let rest = section_lines view octets c.loop-found.left.now c.loop-found.opened (left c.loop-found.found-iterator) in
+      stops_by _ _ _ _ _ c.from_residual-in_err-text.ensures.1
+      (λ h. leads_stop _ _ _ [] rest rest ((section_lines view octets c.args.values.now 0 (elements_of (part_of view) octets))) refl c.loop-found.invariant.leads (unwritten _ [])));
+  form = search rules;
+}

@@ -11,14 +11,14 @@ use Rattle.x509_report_objects.proofs.objects.say_object.Goals as goal
 pub returns : goal.returns
 unfolding object_report
 returns g c =
-    let telling = g.T.Object.telling in
+    let telling = g.T.Reported.telling in
     let seen = c.args.seen.now in
     let begun = c.args.out.now ++ begin_object ∷ [] in
     let found = found_of c.args.place.now in
     let place = place_members (kind_word telling.kind) found in
     let octets = octets_members c.args.wishes.now.fingerprints found seen.octets.now in
     let standing = standing_members seen.plain seen.rest.now in
-    let members = telling.members c.args.wishes.now.fingerprints (g.T.Object.view c.args.object.now) in
+    let members = telling.members c.args.wishes.now.fingerprints (g.T.Reported.view c.args.object.now) in
     let refused = found_members seen.plain seen.refused (part_of telling.kind) seen.octets.now in
     let fields = members_said (members_said (members_said (members_said begun place) octets) standing) members in
     c.in_ok-end_object.ensures

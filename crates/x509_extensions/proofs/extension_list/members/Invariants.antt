@@ -5,18 +5,18 @@ use Rattle.x509_der.specs.Plan.{members, marks_of_members}
 use Rattle.x509_der.specs.Reading.{AddsAtLeast}
 use Rattle.x509_der.proofs.RunLoop.{with_front}
 use Rattle.x509_extensions.specs.Extension.{extension_of, extension_heads, value_bytes, extension}
-use Rattle.x509_extensions.proofs.parser.X509ExtensionParser.read_members.Given as goal
+use Rattle.x509_extensions.proofs.extension_list.members.Given as goal
 
 abbrev pub invariant-loop-alloc : goal.invariant-loop-alloc
-invariant-loop-alloc l = record {
+invariant-loop-alloc g l = record {
   bytes : IsBytes l.rest;
-  run : with_front (map extension_of l.list) (members (extension l.self.deep_parse_extensions) l.rest) ≡ members (extension l.self.deep_parse_extensions) l.i;
-  marks : (l.plain && marks_of_members (extension l.self.deep_parse_extensions) l.rest) ≡ marks_of_members (extension l.self.deep_parse_extensions) l.i;
+  run : with_front (map extension_of l.list) (members (extension g.D.Depth.deep) l.rest) ≡ members (extension g.D.Depth.deep) l.i;
+  marks : (l.plain && marks_of_members (extension g.D.Depth.deep) l.rest) ≡ marks_of_members (extension g.D.Depth.deep) l.i;
   grows : l.fn.tries ≤ l.tries;
   count : l.tries + 8 * length l.rest ≤ l.fn.tries + 8 * length l.i;
   least : AddsAtLeast (sum_by extension_heads (map extension_of l.list)) l.fn.tries l.tries;
-  shallow : l.self.deep_parse_extensions ≡ false → l.tries + 8 * value_bytes (map extension_of l.list) + 8 * length l.rest ≤ l.fn.tries + 8 * length l.i;
+  shallow : g.D.Depth.deep ≡ false → l.tries + 8 * value_bytes (map extension_of l.list) + 8 * length l.rest ≤ l.fn.tries + 8 * length l.i;
 }
 
 abbrev pub decreases-loop-alloc : goal.decreases-loop-alloc
-decreases-loop-alloc l = length l.rest
+decreases-loop-alloc g l = length l.rest
