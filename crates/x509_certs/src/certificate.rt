@@ -2,11 +2,11 @@
 
 ghost use Rattle.std.specs.Prelude.{◌≡◌, MatchResult, codes, string_bytes, true};
 ghost use Rattle.x509_der.specs.Hex.{hex_text};
+ghost use Rattle.x509_der.specs.Iterating.{Iterates};
 ghost use Rattle.x509_der.specs.Primitives.{is_constructed};
 ghost use Rattle.x509_der.specs.Reading.{strict};
 ghost use Rattle.x509_fields.specs.declared.error.X509Error.TheVariants.{OutOfMemory};
 ghost use Rattle.x509_certs.specs.Certificate.{Certificate, certificate_of, certificate_heads, certificate, certificate_laws};
-ghost use Rattle.x509_extensions.specs.ExtensionList.{extensions_left};
 
 use crate::certificate_parser::X509CertificateParser;
 use crate::tbs_certificate::TbsCertificate;
@@ -82,7 +82,7 @@ impl<'a> X509Certificate<'a> {
 
     /// Iterates over the extensions, in order.
     pub fn iter_extensions(&self) -> ExtensionIter<'_, 'a>
-        ensures { extensions_left result ≡ self.now.tbs_certificate.extensions }
+        ensures { Iterates result self.now.tbs_certificate.extensions }
     {
         self.tbs_certificate.iter_extensions()
     }

@@ -2,11 +2,11 @@
 
 ghost use Rattle.std.specs.Prelude.{◌≡◌, MatchResult, codes, string_bytes, true};
 ghost use Rattle.x509_der.specs.Hex.{hex_text};
+ghost use Rattle.x509_der.specs.Iterating.{Iterates};
 ghost use Rattle.x509_der.specs.Primitives.{is_constructed};
 ghost use Rattle.x509_der.specs.Reading.{strict};
 ghost use Rattle.x509_fields.specs.declared.error.X509Error.TheVariants.{OutOfMemory};
 ghost use Rattle.x509_certs.specs.TbsCertificate.{Tbs, tbs_of, tbs_heads, tbs, tbs_laws};
-ghost use Rattle.x509_extensions.specs.ExtensionList.{extensions_left};
 
 use crate::tbs_parser::TbsCertificateParser;
 use crate::unique_identifier::UniqueIdentifier;
@@ -103,9 +103,9 @@ impl<'a> TbsCertificate<'a> {
 
     /// Iterates over the extensions, in order.
     pub fn iter_extensions(&self) -> ExtensionIter<'_, 'a>
-        ensures { extensions_left result ≡ self.now.extensions }
+        ensures { Iterates result self.now.extensions }
     {
-        ExtensionIter::new(self.extensions())
+        self.extensions.iter()
     }
 
     /// The contents octets of the serial, as they stand.

@@ -14,10 +14,7 @@ use Rattle.x509_der.specs.Laws.{IsMarkedField, IsMarkedElement, Anywhere}
 use Rattle.x509_der.proofs.Lawful.{named_field, header_field}
 use Rattle.x509_der.proofs.Marking.{marked, bare_header_marked}
 use Rattle.x509_fields.specs.Errors.{is_x509_memory}
-use Rattle.std.specs.Slice.Iter.{iter_rest}
-use Rattle.x509_extensions.specs.declared.extension.X509Extension.{X509Extension}
 use Rattle.x509_extensions.specs.declared.extension_sequence.ExtensionSequence.{ExtensionSequence}
-use Rattle.x509_extensions.specs.declared.extension_iter.ExtensionIter.{ExtensionIter}
 
 -- ---- the value
 
@@ -79,8 +76,3 @@ wrapped_laws n deep = search (marked, wrapper_header_laws, extensions_laws) dept
 pub wrapped_extensions_laws : (n : ℕ) (deep : Bool) → IsMarkedField is_x509_memory Anywhere (wrapped_extensions n deep)
 unfolding wrapped_extensions
 wrapped_extensions_laws n deep = search (marked, wrapped_laws) depth 40
-
--- ---- iterating
-
-abbrev pub extensions_left : ExtensionIter → List X509Extension
-extensions_left s = iter_rest s.extensions

@@ -8,6 +8,7 @@ ghost use Rattle.x509_extensions.specs.Extension.{Extension, extension_of, exten
 use crate::parsed::ParsedExtension;
 use crate::parser::X509ExtensionParser;
 use std::alloc::Global;
+use std::slice;
 use x509_der::{FromDer, Oid, Outside, Place, Reader, Refused, Tries};
 use x509_fields::{TryClone, X509Error};
 
@@ -31,6 +32,9 @@ pub struct X509Extension<'a> {
     pub value: &'a [u8],
     pub(crate) parsed_extension: ParsedExtension<'a>,
 }
+
+/// Extensions, in order.
+pub type ExtensionIter<'v, 'a> = slice::Iter<'v, X509Extension<'a>>;
 
 impl<'a> X509Extension<'a> {
     /// The extension of these parts.

@@ -1,6 +1,5 @@
 -- Where more about an issuer or a subject is found (RFC 5280, 4.2.2.1 and 4.2.2.2).
 use Rattle.std.specs.Prelude.{ℕ, ◌+◌, List, Option, map, sum_by}
-use Rattle.std.specs.Slice.Iter.{iter_rest}
 use Rattle.x509_der.specs.Laws.{IsMarkedElement}
 use Rattle.x509_der.specs.Leaves.{oid}
 use Rattle.x509_der.specs.Oid.{oid_bytes}
@@ -10,7 +9,6 @@ use Rattle.x509_der.specs.Promises.{ended_early}
 use Rattle.x509_der.proofs.Marking.{marked}
 use Rattle.x509_fields.specs.Errors.{is_x509_memory}
 use Rattle.x509_fields.specs.Fields.{Field, lifted, sequence, as_x509_renames}
-use Rattle.x509_general_names.specs.declared.access_iter.AccessIter.{AccessIter}
 use Rattle.x509_general_names.specs.declared.general_name.GeneralName.{GeneralName}
 use Rattle.x509_general_names.specs.declared.information_access.AccessDescription.{AccessDescription}
 use Rattle.x509_general_names.specs.declared.information_access.AuthorityInfoAccess.{AuthorityInfoAccess}
@@ -68,11 +66,6 @@ access_description_laws = search (marked, as_x509_renames, general_name_laws) de
 pub information_access_laws : IsMarkedElement is_x509_memory information_access
 unfolding information_access
 information_access_laws = search (marked, as_x509_renames, access_description_laws) depth 40
-
--- ---- iterating
-
-abbrev pub accesses_left : AccessIter → List AccessDescription
-accesses_left s = iter_rest s.accesses
 
 -- ---- maps
 

@@ -1,6 +1,7 @@
 //! Where more about an issuer or a subject is found.
 
 ghost use Rattle.std.specs.Prelude.{◌≡◌, List, map, true, IfOk, IfErr};
+ghost use Rattle.x509_der.specs.Iterating.{Iterates};
 ghost use Rattle.x509_der.specs.Place.{at, outside_of};
 ghost use Rattle.x509_der.specs.Primitives.{is_constructed};
 ghost use Rattle.x509_der.specs.Promises.{ReadsAt};
@@ -11,13 +12,13 @@ ghost use Rattle.x509_fields.specs.declared.error.X509Error.TheVariants.{OutOfMe
 ghost use Rattle.x509_fields.specs.Groups.{held, pointed};
 ghost use Rattle.x509_general_names.specs.InformationAccess.{Access, access_of, authority_accesses_of, subject_accesses_of, access_description};
 ghost use Rattle.x509_general_names.specs.InformationAccess.{information_access, access_heads, information_access_heads, access_description_laws};
-ghost use Rattle.x509_general_names.specs.InformationAccess.{information_access_laws, accesses_left, locations};
+ghost use Rattle.x509_general_names.specs.InformationAccess.{information_access_laws, locations};
 
-use crate::access_iter::AccessIter;
 use crate::general_name::GeneralName;
 use std::alloc::Global;
 use std::collections::HashMap;
 use std::hash::BuildHasher;
+use std::slice;
 use x509_der::{
     ErrorKind, Fields, FromDer, Oid, Outside, Place, Refused, Sequence, Tries, converted, read_run,
 };
@@ -112,12 +113,15 @@ pub struct AuthorityInfoAccess<'a> {
     pub accessdescs: Sequence<AccessDescription<'a>>,
 }
 
+/// Access descriptions, in order.
+pub type AccessIter<'v, 'a> = slice::Iter<'v, AccessDescription<'a>>;
+
 impl<'a> AuthorityInfoAccess<'a> {
     /// The access descriptions, in order.
     pub fn iter(&self) -> AccessIter<'_, 'a>
-        ensures { accesses_left result ≡ self.now.accessdescs }
+        ensures { Iterates result self.now.accessdescs }
     {
-        AccessIter::new(self.accessdescs.as_slice())
+        self.accessdescs.iter()
     }
 
     /// The locations under each method, in order, and no other key.
@@ -206,9 +210,9 @@ pub struct SubjectInfoAccess<'a> {
 impl<'a> SubjectInfoAccess<'a> {
     /// The access descriptions, in order.
     pub fn iter(&self) -> AccessIter<'_, 'a>
-        ensures { accesses_left result ≡ self.now.accessdescs }
+        ensures { Iterates result self.now.accessdescs }
     {
-        AccessIter::new(self.accessdescs.as_slice())
+        self.accessdescs.iter()
     }
 
     /// The locations under each method, in order, and no other key.

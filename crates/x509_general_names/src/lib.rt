@@ -2,7 +2,6 @@
 //! and distribution points (RFC 5280, sections 4.2 and 5.2). It may use x509_names and x509_fields.
 #![tactic(auto)]
 
-mod access_iter;
 mod addresses;
 mod alternative_names;
 mod authority_key_identifier;
@@ -18,14 +17,15 @@ mod laws;
 mod name_constraints;
 mod reason_flags;
 
-pub use access_iter::AccessIter;
 pub use addresses::ip_address;
 pub use alternative_names::{IssuerAlternativeName, SubjectAlternativeName};
 pub use authority_key_identifier::AuthorityKeyIdentifier;
 pub use distribution_point_name::DistributionPointName;
 pub use distribution_points::{CRLDistributionPoint, CRLDistributionPoints};
 pub use general_name::GeneralName;
-pub use information_access::{AccessDescription, AuthorityInfoAccess, SubjectInfoAccess};
+pub use information_access::{
+    AccessDescription, AccessIter, AuthorityInfoAccess, SubjectInfoAccess,
+};
 pub use issuing_distribution_point::IssuingDistributionPoint;
 pub use key_identifier::KeyIdentifier;
 pub use laws::grammar_laws;

@@ -1,6 +1,5 @@
 -- The certificates of a list (RFC 5280, 5.1.2.6).
 use Rattle.std.specs.Prelude.{ℕ, List, [], ◌∷◌, ◌+◌, map, sum_by}
-use Rattle.std.specs.Slice.Iter.{iter_rest}
 use Rattle.x509_der.specs.Laws.{IsMarkedElement}
 use Rattle.x509_der.specs.Plan.{run, to_end}
 use Rattle.x509_der.specs.Promises.{ended_early}
@@ -9,9 +8,7 @@ use Rattle.x509_fields.specs.declared.error.X509Error.TheVariants as x509
 use Rattle.x509_fields.specs.Errors.{is_x509_memory}
 use Rattle.x509_fields.specs.Fields.{Field, sequence, as_x509_renames}
 use Rattle.x509_lists.specs.RevokedCertificate.{Revoked, revoked, revoked_of, revoked_heads, revoked_laws}
-use Rattle.x509_lists.specs.declared.revoked_certificate.RevokedCertificate.{RevokedCertificate}
 use Rattle.x509_lists.specs.declared.revoked_list.RevokedList.{RevokedList}
-use Rattle.x509_lists.specs.declared.revoked_iter.RevokedIter.{RevokedIter}
 
 abbrev pub revoked_list_of : RevokedList → List Revoked
 revoked_list_of r = map revoked_of r.list
@@ -32,7 +29,3 @@ revocations_heads (r ∷ rs) = revoked_list_heads (r ∷ rs)
 pub revoked_list_laws : IsMarkedElement is_x509_memory revoked_list
 unfolding revoked_list
 revoked_list_laws = search (marked, as_x509_renames, revoked_laws) depth 40
-
--- what an iterator still gives
-abbrev pub revoked_left : RevokedIter → List RevokedCertificate
-revoked_left s = iter_rest s.revoked

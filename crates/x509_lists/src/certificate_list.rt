@@ -1,19 +1,18 @@
 //! Lists of revoked certificates.
 
 ghost use Rattle.std.specs.Prelude.{◌≡◌, true};
+ghost use Rattle.x509_der.specs.Iterating.{Iterates};
 ghost use Rattle.x509_der.specs.Primitives.{is_constructed};
 ghost use Rattle.x509_der.specs.Reading.{strict};
 ghost use Rattle.x509_fields.specs.Signed.{Signed};
 ghost use Rattle.x509_lists.specs.CertificateList.{certificate_list, certificate_list_laws, list_heads, list_of};
 ghost use Rattle.x509_lists.specs.ListEntries.{list_entries_of};
 ghost use Rattle.x509_lists.specs.RevokedEntries.{entries_left, entries_of};
-ghost use Rattle.x509_lists.specs.RevokedList.{revoked_left};
 ghost use Rattle.x509_lists.specs.TbsCertList.{TbsList};
 
 use crate::entries_iter::EntriesIter;
-use crate::revoked_certificate::RevokedCertificate;
+use crate::revoked_certificate::{RevokedCertificate, RevokedIter};
 use crate::revoked_entries::RevokedEntries;
-use crate::revoked_iter::RevokedIter;
 use crate::tbs_cert_list::TbsCertListOf;
 use std::alloc::Global;
 use x509_der::{BitString, FromDer, OfType, Outside, Place, Refused, Sequence, Tries, ok};
@@ -104,9 +103,9 @@ impl<'a, R> CertificateListOf<'a, R> {
 impl<'a> CertificateRevocationList<'a> {
     /// Iterates over the certificates that were revoked, in order.
     pub fn iter_revoked_certificates(&self) -> RevokedIter<'_, 'a>
-        ensures { revoked_left result ≡ self.now.tbs_cert_list.revoked_certificates }
+        ensures { Iterates result self.now.tbs_cert_list.revoked_certificates }
     {
-        RevokedIter::new(self.tbs_cert_list.revoked_certificates.as_slice())
+        self.tbs_cert_list.revoked_certificates.iter()
     }
 }
 

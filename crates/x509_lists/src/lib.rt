@@ -15,7 +15,6 @@ mod next_update;
 mod parsing;
 mod revoked_certificate;
 mod revoked_entries;
-mod revoked_iter;
 mod revoked_list;
 mod tbs_cert_list;
 mod tbs_parts;
@@ -28,9 +27,8 @@ pub use parsing::{
     parse_x509_crl_entries_strict, parse_x509_crl_located, parse_x509_crl_marked,
     parse_x509_crl_strict,
 };
-pub use revoked_certificate::RevokedCertificate;
+pub use revoked_certificate::{RevokedCertificate, RevokedIter};
 pub use revoked_entries::RevokedEntries;
-pub use revoked_iter::RevokedIter;
 pub use tbs_cert_list::{TbsCertList, TbsCertListEntries, TbsCertListOf};
 pub use tbs_parts::Entries;
 pub use x509_extensions::ExtensionIter;

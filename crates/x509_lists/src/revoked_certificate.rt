@@ -2,13 +2,14 @@
 
 ghost use Rattle.std.specs.Prelude.{◌≡◌, MatchResult, codes, string_bytes, true};
 ghost use Rattle.x509_der.specs.Hex.{hex_text};
+ghost use Rattle.x509_der.specs.Iterating.{Iterates};
 ghost use Rattle.x509_der.specs.Primitives.{is_constructed};
 ghost use Rattle.x509_der.specs.Reading.{strict};
 ghost use Rattle.x509_fields.specs.declared.error.X509Error.TheVariants.{OutOfMemory};
-ghost use Rattle.x509_extensions.specs.ExtensionList.{extensions_left};
 ghost use Rattle.x509_lists.specs.RevokedCertificate.{Revoked, revoked_of, revoked, revoked_heads, revoked_laws};
 
 use std::alloc::Global;
+use std::slice;
 use x509_der::{Fields, FromDer, Outside, Place, Refused, Sequence, Tries, UnsignedBytes, ok};
 use x509_extensions::{ExtensionIter, ExtensionSequence, X509Extension};
 use x509_fields::{ASN1Time, TryClone, X509Error, format_serial, read_serial, sequence_at};
@@ -33,6 +34,9 @@ pub struct RevokedCertificate<'a> {
     pub(crate) raw_serial: &'a [u8],
 }
 
+/// Certificates that were revoked, in order.
+pub type RevokedIter<'v, 'a> = slice::Iter<'v, RevokedCertificate<'a>>;
+
 impl<'a> RevokedCertificate<'a> {
     /// The serial of the certificate as an unsigned number, whatever its sign.
     pub fn serial(&self) -> &UnsignedBytes<'a>
@@ -50,9 +54,9 @@ impl<'a> RevokedCertificate<'a> {
 
     /// Iterates over the extensions, in order.
     pub fn iter_extensions(&self) -> ExtensionIter<'_, 'a>
-        ensures { extensions_left result ≡ self.now.extensions }
+        ensures { Iterates result self.now.extensions }
     {
-        ExtensionIter::new(self.extensions())
+        self.extensions.iter()
     }
 
     /// The contents octets of the serial, as they stand.

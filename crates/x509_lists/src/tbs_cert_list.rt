@@ -1,9 +1,9 @@
 //! The part of a list that is signed.
 
 ghost use Rattle.std.specs.Prelude.{◌≡◌, true};
+ghost use Rattle.x509_der.specs.Iterating.{Iterates};
 ghost use Rattle.x509_der.specs.Primitives.{is_constructed};
 ghost use Rattle.x509_der.specs.Reading.{strict};
-ghost use Rattle.x509_extensions.specs.ExtensionList.{extensions_left};
 ghost use Rattle.x509_lists.specs.TbsCertList.{TbsList, tbs_list, tbs_list_heads, tbs_list_laws, tbs_list_with};
 
 use crate::revoked_certificate::RevokedCertificate;
@@ -65,9 +65,9 @@ impl<'a, R> TbsCertListOf<'a, R> {
 
     /// Iterates over the extensions, in order.
     pub fn iter_extensions(&self) -> ExtensionIter<'_, 'a>
-        ensures { extensions_left result ≡ self.now.extensions }
+        ensures { Iterates result self.now.extensions }
     {
-        ExtensionIter::new(self.extensions())
+        self.extensions.iter()
     }
 
     /// The bytes that are signed: the whole element, with its header.

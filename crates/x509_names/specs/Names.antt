@@ -18,7 +18,6 @@ use Rattle.x509_fields.specs.Fields.{Field, named, sequence, set_of, trimmed_seq
 use Rattle.x509_names.specs.declared.name.AttributeTypeAndValue.{AttributeTypeAndValue}
 use Rattle.x509_names.specs.declared.name.RelativeDistinguishedName.{RelativeDistinguishedName}
 use Rattle.x509_names.specs.declared.name.X509Name.{X509Name}
-use Rattle.x509_names.specs.declared.name_iter.RdnIter.{RdnIter}
 use Rattle.x509_names.specs.declared.name_iter.AttributeIter.{AttributeIter}
 use Rattle.x509_names.specs.declared.name_iter.AttributeByOid.{AttributeByOid}
 
@@ -94,9 +93,6 @@ abbrev pub with_type : List ℕ → List AttributeTypeAndValue → List Attribut
 with_type id attributes = filter (λ a. bytes_eq (oid_bytes a.attr_type) id) attributes
 
 -- what an iterator still gives
-abbrev pub relative_left : RdnIter → List RelativeDistinguishedName
-relative_left s = iter_rest s.relative
-
 abbrev pub attributes_left : AttributeIter → List AttributeTypeAndValue
 attributes_left s = iter_rest s.attributes ++ attributes_in (iter_rest s.relative)
 

@@ -2,6 +2,7 @@
 
 ghost use Rattle.std.specs.Prelude.{◌≡◌, List, [], false, true};
 ghost use Rattle.std.specs.Cmp.Lexicographic.{pointwise};
+ghost use Rattle.x509_der.specs.Iterating.{Iterates};
 ghost use Rattle.x509_der.specs.Leaves.{sequence};
 ghost use Rattle.x509_der.specs.Oid.{oid_bytes};
 ghost use Rattle.x509_der.specs.Primitives.{is_constructed};
@@ -9,7 +10,7 @@ ghost use Rattle.x509_der.specs.Promises.{OneTryEach};
 ghost use Rattle.x509_der.specs.Reading.{Gives, strict};
 ghost use Rattle.x509_names.specs.Names.{Attribute, attribute_of, attribute_heads, attribute, attribute_laws, relative_name_of, relative_name_heads};
 ghost use Rattle.x509_names.specs.Names.{relative_name, relative_name_laws, Name, name_of, name_heads, name, name_laws, attributes_in, with_type};
-ghost use Rattle.x509_names.specs.Names.{relative_left, attributes_left, matching_left, is_plain_string, string_in};
+ghost use Rattle.x509_names.specs.Names.{attributes_left, matching_left, is_plain_string, string_in};
 ghost use Rattle.x509_names.specs.Objects.{common_name, country_name, locality_name, state_or_province_name, organization_name, organizational_unit};
 ghost use Rattle.x509_names.specs.Objects.{email_address};
 
@@ -358,16 +359,16 @@ impl<'a> X509Name<'a> {
 
     /// The relative names, in order.
     pub fn iter(&self) -> RdnIter<'_, 'a>
-        ensures { relative_left result ≡ self.now.rdn_seq }
+        ensures { Iterates result self.now.rdn_seq }
     {
         self.iter_rdn()
     }
 
     /// The relative names, in order.
     pub fn iter_rdn(&self) -> RdnIter<'_, 'a>
-        ensures { relative_left result ≡ self.now.rdn_seq }
+        ensures { Iterates result self.now.rdn_seq }
     {
-        RdnIter::new(self.rdn_seq.as_slice())
+        self.rdn_seq.iter()
     }
 
     /// The attributes of all relative names, in order.

@@ -3,39 +3,14 @@
 ghost use Rattle.std.specs.Prelude.{◌≡◌, []};
 ghost use Rattle.std.specs.Iterator.{YieldsFirstRef, item_count};
 ghost use Rattle.x509_der.specs.Oid.{oid_bytes};
-ghost use Rattle.x509_names.specs.Names.{attributes_in, with_type, relative_left, attributes_left, matching_left};
+ghost use Rattle.x509_names.specs.Names.{attributes_in, with_type, attributes_left, matching_left};
 
 use crate::name::{AttributeTypeAndValue, RelativeDistinguishedName};
 use std::slice;
 use x509_der::Oid;
 
 /// The relative names of a name, in order.
-#[derive(Debug, Drop)]
-pub struct RdnIter<'v, 'a> {
-    relative: slice::Iter<'v, RelativeDistinguishedName<'a>>,
-}
-
-impl<'v, 'a> RdnIter<'v, 'a> {
-    pub(crate) fn new(relative: &'v [RelativeDistinguishedName<'a>]) -> Self
-        ensures { relative_left result ≡ relative.now }
-    {
-        RdnIter {
-            relative: relative.iter(),
-        }
-    }
-}
-
-impl<'v, 'a> Iterator for RdnIter<'v, 'a> {
-    type Item = &'v RelativeDistinguishedName<'a>;
-
-    ghost next_gives = { YieldsFirstRef relative_left };
-
-    ghost remaining = { item_count relative_left };
-
-    fn next(&mut self) -> Option<&'v RelativeDistinguishedName<'a>> {
-        self.relative.next()
-    }
-}
+pub type RdnIter<'v, 'a> = slice::Iter<'v, RelativeDistinguishedName<'a>>;
 
 /// Attributes of relative names, in order.
 #[derive(Debug, Drop)]

@@ -2,7 +2,6 @@ pub mod PasswordTexts
 pub mod ExtensionRequest
 pub mod CriAttribute
 pub mod AttributeLaws
-pub mod AttributeIter
 pub mod AttributeLookUps
 pub mod RequestInfo
 pub mod Request

@@ -17,6 +17,7 @@ use crate::attribute_parts::{AttributeParts, read_attribute_parts};
 use crate::extension_request::ExtensionRequest;
 use crate::password::{ChallengePassword, read_password};
 use std::alloc::Global;
+use std::slice;
 use x509_der::{Class, Err, Fields, FromDer, Header, Oid, Outside, Place, Refused, Tries, Window};
 use x509_fields::{TryClone, X509Error};
 
@@ -72,6 +73,9 @@ impl ParsedCriAttribute<'_> {
         Ok(copy)
     }
 }
+
+/// Attributes of a request, in order.
+pub type CriAttributeIter<'v, 'a> = slice::Iter<'v, X509CriAttribute<'a>>;
 
 impl<'a> X509CriAttribute<'a> {
     /// The same attribute, with what its value says in memory of its own.

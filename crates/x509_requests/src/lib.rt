@@ -6,7 +6,6 @@ mod attribute_kind;
 mod attribute_look_ups;
 mod attribute_parts;
 mod cri_attribute;
-mod cri_attribute_iter;
 mod extension_request;
 mod laws;
 mod parsing;
@@ -16,8 +15,7 @@ mod request_attributes;
 mod request_info;
 mod requested_iter;
 
-pub use cri_attribute::{ParsedCriAttribute, X509CriAttribute};
-pub use cri_attribute_iter::CriAttributeIter;
+pub use cri_attribute::{CriAttributeIter, ParsedCriAttribute, X509CriAttribute};
 pub use extension_request::ExtensionRequest;
 pub use laws::grammar_laws;
 pub use parsing::{

@@ -1,13 +1,12 @@
 //! What a certification request says.
 
 ghost use Rattle.std.specs.Prelude.{◌≡◌, true};
+ghost use Rattle.x509_der.specs.Iterating.{Iterates};
 ghost use Rattle.x509_der.specs.Primitives.{is_constructed};
 ghost use Rattle.x509_der.specs.Reading.{strict};
-ghost use Rattle.x509_requests.specs.AttributeIter.{attributes_left};
 ghost use Rattle.x509_requests.specs.RequestInfo.{RequestInfo, info_of, info_heads, request_info, request_info_laws};
 
-use crate::cri_attribute::X509CriAttribute;
-use crate::cri_attribute_iter::CriAttributeIter;
+use crate::cri_attribute::{CriAttributeIter, X509CriAttribute};
 use crate::request_attributes::read_attributes;
 use std::alloc::Global;
 use x509_der::{Fields, FromDer, Outside, Place, Refused, Sequence, Tries, ok};
@@ -49,9 +48,9 @@ impl<'a> X509CertificationRequestInfo<'a> {
 
     /// Iterates over the attributes, in order.
     pub fn iter_attributes(&self) -> CriAttributeIter<'_, 'a>
-        ensures { attributes_left result ≡ self.now.attributes }
+        ensures { Iterates result self.now.attributes }
     {
-        CriAttributeIter::new(self.attributes())
+        self.attributes.iter()
     }
 }
 

@@ -9,26 +9,22 @@ use Rattle.x509_report.proofs.files.report_der.Goals as goal
 
 pub returns : goal.returns
 unfolding der_told
-returns g c = record {
-  lines = (let form = c.args.printer.now.form in
-      let task = task_of c.args.asked.now form c.args.file.now in
-      let elements = map (λ e. e.now) c.args.elements.now in
-      let rest = c.args.rest.now in
-      let offset = length c.args.octets.now - length rest in
-      let first : Told = elements_told task 0 0 elements in
-      let last : Told = rest_told task (length elements) offset rest in
-      let wrote = subst (λ f. Appends (g.W.Write.contents c.report_elements.new.printer.out) (g.W.Write.contents c.report_rest.new.printer.out) (text (rest_told (task_of c.args.asked.now f c.args.file.now) (length c.args.elements.now) offset rest).lines)) c.in_ok-all.ensures.form c.in_ok-last.ensures.lines in
-      behind _ _ _ first.lines last.lines c.in_ok-all.ensures.lines
-      (subst (λ n. Appends (g.W.Write.contents c.report_elements.new.printer.out) (g.W.Write.contents c.report_rest.new.printer.out) (text (rest_told task n offset rest).lines)) (sym (length-map c.args.elements.now (λ e. e.now))) wrote));
-  taken = (let form = c.args.printer.now.form in
-      let task = task_of c.args.asked.now form c.args.file.now in
-      let elements = map (λ e. e.now) c.args.elements.now in
-      let rest = c.args.rest.now in
-      let offset = length c.args.octets.now - length rest in
-      let last = c.in_ok-last.ensures.taken ∙ ap (λ f. (rest_told (task_of c.args.asked.now f c.args.file.now) (length c.args.elements.now) offset rest).taken) c.in_ok-all.ensures.form ∙ ap (λ n. (rest_told task n offset rest).taken) (sym (length-map c.args.elements.now (λ e. e.now))) in
-      ap (λ b. b && c.in_ok-last.last) c.in_ok-all.ensures.taken ∙ ap (λ b. (elements_told task 0 0 elements).taken && b) last);
-  form = search rules;
-}
+returns g c =
+    let form = c.args.printer.now.form in
+    let task = task_of c.args.asked.now form c.args.file.now in
+    let elements = map (λ e. e.now) c.args.elements.now in
+    let rest = c.args.rest.now in
+    let offset = length c.args.octets.now - length rest in
+    let first : Told = elements_told task 0 0 elements in
+    let last : Told = rest_told task (length elements) offset rest in
+    let wrote = subst (λ f. Appends (g.W.Write.contents c.report_elements.new.printer.out) (g.W.Write.contents c.report_rest.new.printer.out) (text (rest_told (task_of c.args.asked.now f c.args.file.now) (length c.args.elements.now) offset rest).lines)) c.in_ok-all.ensures.form c.in_ok-last.ensures.lines in
+    let taken = c.in_ok-last.ensures.taken ∙ ap (λ f. (rest_told (task_of c.args.asked.now f c.args.file.now) (length c.args.elements.now) offset rest).taken) c.in_ok-all.ensures.form ∙ ap (λ n. (rest_told task n offset rest).taken) (sym (length-map c.args.elements.now (λ e. e.now))) in
+    record {
+      lines = behind _ _ _ first.lines last.lines c.in_ok-all.ensures.lines
+          (subst (λ n. Appends (g.W.Write.contents c.report_elements.new.printer.out) (g.W.Write.contents c.report_rest.new.printer.out) (text (rest_told task n offset rest).lines)) (sym (length-map c.args.elements.now (λ e. e.now))) wrote);
+      taken = ap (λ b. b && c.in_ok-last.last) c.in_ok-all.ensures.taken ∙ ap (λ b. first.taken && b) taken;
+      form = search rules;
+    }
 
 pub returns-in_err-all : goal.returns-in_err-all
 unfolding der_told
