@@ -1,5 +1,5 @@
 -- What a strict reader gives: the same where it stands plainly, a refusal of its own where it doesn't.
-use Rattle.std.proofs.Common.{◌≡◌, ◌-◌, ◌&&◌, not, ℕ, Bool, true, false, List, [], Result, Ok, Err, cond, refl, sym, ap, ◌∙◌, arith}
+use Rattle.std.proofs.Common.{◌≡◌, ◌&&◌, not, ℕ, Bool, true, false, List, [], Result, Ok, Err, cond, refl, sym, ap, ◌∙◌, arith}
 use Rattle.x509_der.specs.declared.error.Err.{Err as Refusal}
 use Rattle.x509_der.specs.declared.error.Err.TheVariants as refusals
 use Rattle.x509_der.specs.declared.error.Refused.{Refused}

@@ -1,4 +1,4 @@
-use Rattle.std.proofs.Common.{◌≡◌, Ok, Err, arith, rules}
+use Rattle.std.proofs.Common.{◌≡◌, arith, rules}
 use Rattle.x509_der.specs.Plan.{got}
 use Rattle.x509_der.proofs.reader.Reader.read_marked.Goals as goal
 
