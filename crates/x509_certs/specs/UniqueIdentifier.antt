@@ -1,9 +1,13 @@
 -- Unique identifiers of issuer and subject (RFC 5280, 4.1.2.8).
-use Rattle.std.specs.Prelude.{ℕ, List, true, Option, ◌≡◌}
+use Rattle.std.specs.Prelude.{◌≡◌, ◌≤◌, ◌+◌, ◌-◌, ◌*◌, ℕ, List, true, Option, Result, IfOk, IfErr, min, length}
+use Rattle.x509_der.specs.declared.error.Refused.{Refused}
+use Rattle.x509_der.specs.declared.fields.Fields.{Fields}
+use Rattle.x509_der.specs.Fields.{next_of, plain_in, outer_of}
 use Rattle.x509_der.specs.Primitives.{Bits, is_implicit, bit_string}
 use Rattle.x509_der.specs.Plan.{hard}
 use Rattle.x509_der.specs.Leaves.{any_header, implicit_bits}
-use Rattle.x509_der.specs.Promises.{is_ber_memory, option_heads}
+use Rattle.x509_der.specs.Promises.{GivesAt, is_ber_memory, option_heads, option_view}
+use Rattle.x509_der.specs.Reading.{AddsAtLeast}
 use Rattle.x509_fields.specs.declared.error.X509Error.{X509Error}
 use Rattle.x509_fields.specs.declared.error.X509Error.TheVariants as x509
 use Rattle.x509_fields.specs.Errors.{is_x509_memory}
@@ -29,6 +33,16 @@ subject_uid = unique_id 2 x509.InvalidSubjectUID
 
 abbrev pub uid_heads : Option Bits → ℕ
 uid_heads uid = option_heads (λ _. 1) uid
+
+-- What a step over a unique identifier promises; where it is refused, nothing more is tried.
+pub record ReadsUniqueId {L : Type 0} (plan : Field (Option Bits)) (more : ℕ → L → L) (fields : Fields L) (old new : ℕ) (result : Result (Fields L × Option UniqueIdentifier) (Refused X509Error L)) : Type 0 where
+  pub reads : GivesAt (λ x. (next_of x.0, option_view bits_of_uid x.1)) plan more (next_of fields) (outer_of fields) result
+  pub outer : IfOk result (λ x. outer_of x.0 ≡ outer_of fields)
+  pub marks : IfOk result (λ x. plain_in x.0 ≡ plain_in fields)
+  pub grows : old ≤ new
+  pub same : IfErr result (λ _. new ≡ old)
+  pub count : IfOk result (λ x. new + 8 * length (next_of x.0) ≤ old + 8 * length (next_of fields))
+  pub least : IfOk result (λ x. AddsAtLeast (uid_heads (option_view bits_of_uid x.1) + min 1 (length (next_of x.0)) - min 1 (length (next_of fields))) old new)
 
 pub unique_id_laws : (n : ℕ) (why : X509Error) → IsMarkedField is_x509_memory Anywhere (unique_id n why)
 unfolding unique_id

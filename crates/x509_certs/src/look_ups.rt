@@ -1,14 +1,11 @@
 //! Extensions of a certificate by their identifiers, and what they say.
 
-ghost use Rattle.std.specs.Prelude.{◌≡◌, true, false, IfOk, IfErr, ◌⊎◌};
-ghost use Rattle.std.specs.HashMap.{get};
+ghost use Rattle.std.specs.Prelude.{◌≡◌};
 ghost use Rattle.std.specs.List.{find};
 ghost use Rattle.std.specs.Option.{option_copied};
 ghost use Rattle.x509_der.specs.Oid.{oid_bytes};
-ghost use Rattle.x509_der.specs.declared.oid.Oid.{Oid as OidOf};
-ghost use Rattle.x509_fields.specs.declared.error.X509Error.TheVariants.{OutOfMemory, DuplicateExtensions};
 ghost use Rattle.x509_names.specs.Objects as objects;
-ghost use Rattle.x509_extensions.specs.Lookups.{has_oid, oid_eq, unique_of, pointed, all_distinct, typed, typed_or_none, basic_constraints_in, key_usage_in};
+ghost use Rattle.x509_extensions.specs.Lookups.{MapsExtensions, has_oid, unique_of, pointed, typed, typed_or_none, basic_constraints_in, key_usage_in};
 ghost use Rattle.x509_extensions.specs.Lookups.{extended_key_usage_in, policy_constraints_in, inhibit_any_policy_in, policy_mappings_in, subject_names_in};
 ghost use Rattle.x509_extensions.specs.Lookups.{name_constraints_in};
 ghost use Rattle.x509_certs.specs.LookUps.{found, says_ca};
@@ -65,9 +62,7 @@ impl<'a> TbsCertificate<'a> {
         alloc: Global,
         hasher: S,
     ) -> Result<HashMap<Oid<'a>, &X509Extension<'a>, S>, X509Error>
-        ensures distinct { IfOk result (λ _. all_distinct self.now.extensions ≡ true) }
-        ensures entries { IfOk result (λ m. (q : OidOf) → option_copied (get oid_eq m q) ≡ find (has_oid (oid_bytes q)) self.now.extensions) }
-        ensures refused { IfErr result (λ e. (e ≡ OutOfMemory) ⊎ ((e ≡ DuplicateExtensions) × (all_distinct self.now.extensions ≡ false))) }
+        ensures { MapsExtensions self.now.extensions result }
     {
         x509_extensions::extensions_map(alloc, self.extensions(), hasher)
     }
@@ -285,9 +280,7 @@ impl<'a> X509Certificate<'a> {
         alloc: Global,
         hasher: S,
     ) -> Result<HashMap<Oid<'a>, &X509Extension<'a>, S>, X509Error>
-        ensures distinct { IfOk result (λ _. all_distinct self.now.tbs_certificate.extensions ≡ true) }
-        ensures entries { IfOk result (λ m. (q : OidOf) → option_copied (get oid_eq m q) ≡ find (has_oid (oid_bytes q)) self.now.tbs_certificate.extensions) }
-        ensures refused { IfErr result (λ e. (e ≡ OutOfMemory) ⊎ ((e ≡ DuplicateExtensions) × (all_distinct self.now.tbs_certificate.extensions ≡ false))) }
+        ensures { MapsExtensions self.now.tbs_certificate.extensions result }
     {
         self.tbs_certificate.extensions_map(alloc, hasher)
     }

@@ -178,6 +178,13 @@ fn seen_length(i: &[u8]) -> Result<(&[u8], u32, bool), HeaderError>
         [] => Err(HeaderError::CutShort),
         [octet @ 0..0x80, rest @ ..] => Ok((rest, u32::from(*octet), true)),
         [0x80 | 0xff, ..] => Err(HeaderError::InvalidLength),
+        // Nearly all long lengths stand in one octet or in two.
+        [0x81, low, rest @ ..] => Ok((rest, u32::from(*low), *low >= 128)),
+        [0x82, high, low, rest @ ..] => Ok((
+            rest,
+            u32::from(*high) * 256 + u32::from(*low),
+            *high > 0,
+        )),
         [octet, rest @ ..] => seen_long_length((*octet % 128) as usize, rest),
     }
 }

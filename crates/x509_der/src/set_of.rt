@@ -1,9 +1,9 @@
 //! Members of sets, of which one alone takes no memory.
 
-ghost use Rattle.std.specs.Prelude.{◌≡◌, ◌∷◌, [], map, IfOk, IfErr, IsOk};
+ghost use Rattle.std.specs.Prelude.{◌≡◌, ◌∷◌, [], map, drop, cond, true, IfOk, IfErr, IsOk};
 ghost use Rattle.x509_der.specs.Place.{bytes_in, outside_in};
-ghost use Rattle.x509_der.specs.Plan.{run1};
-ghost use Rattle.x509_der.specs.Promises.{ReadsList, empty_run};
+ghost use Rattle.x509_der.specs.Plan.{run, run1, stop_here};
+ghost use Rattle.x509_der.specs.Promises.{ReadsRun, ReadsList, empty_run, is_excused};
 
 use crate::error::{Err, ErrorKind, ReadError, Refused};
 use crate::from_der::FromDer;
@@ -123,40 +123,51 @@ pub fn read_set_of<'a, E: ReadError, T: FromDer<'a, E> + Drop, L: Outside>(
 {
     let (rest, first, plain) = match T::read_marked(alloc, tries, i.bytes) {
         Ok(read) => read,
-        Err(e) => {
-            if e.is_out_of_memory() {
-                return Err(Refused {
-                    why: e,
-                    left: i.outside,
-                });
-            }
-            return Err(Refused {
-                why: Err::Error(E::from_list(ErrorKind::Many1)),
-                left: i.outside.more(i.bytes.len()),
-            });
-        }
+        Err(e) => return Err(no_first(e, i)),
     };
     if rest.is_empty() {
-        return Ok((
-            rest,
-            SetOf {
-                held: Held::One([first]),
-            },
-            plain,
-        ));
+        let held = Held::One([first]);
+        return Ok((rest, SetOf { held }, plain));
     }
-    let (rest, others, marked) = match read_run(alloc, tries, rest) {
-        Ok(read) => read,
-        Err(why) => return Err(Refused {
+    match read_behind(alloc, tries, first, rest) {
+        Ok((rest, set, marked)) => Ok((rest, set, plain & marked)),
+        Err(why) => Err(Refused {
             why,
             left: i.outside,
         }),
-    };
-    match SetOf::with_first(first, others) {
-        Ok(set) => Ok((rest, set, plain & marked)),
-        Err(_) => Err(Refused {
-            why: Err::out_of_memory(),
+    }
+}
+
+/// Why there is no set where its first member is refused so: want of memory is no other refusal.
+fn no_first<E: ReadError, L: Outside>(e: Err<E>, i: &Window<'_, L>) -> Refused<E, L>
+    ensures { cond (is_excused E.is_memory true e) (result.why ≡ e)
+        ((result.why ≡ empty_run E.of_list) × (stop_here L.adds (bytes_in i.now) (outside_in i.now) ≡ result.left)) }
+{
+    if e.is_out_of_memory() {
+        return Refused {
+            why: e,
             left: i.outside,
-        }),
+        };
+    }
+    i.refuse_at(i.bytes, Err::Error(E::from_list(ErrorKind::Many1)))
+}
+
+/// A first member with those that can be read behind it, and whether these stand plainly: seldom called, so apart from
+/// what reads one member alone.
+#[inline(never)]
+fn read_behind<'a, E: ReadError, T: FromDer<'a, E> + Drop>(
+    alloc: Global,
+    tries: &mut Tries,
+    first: T,
+    i: &'a [u8],
+) -> Result<(&'a [u8], SetOf<T>, bool), Err<E>>
+    ensures first { IfOk result (λ x. map T.view x.1 ≡ T.view first ∷ drop 1 (map T.view x.1)) }
+    ensures others { ReadsRun E.is_memory T.form T.own_tag T.heads (λ x. (x.0.now, drop 1 (map T.view x.1))) (λ x. x.2) (run T.plan) i.now tries.old tries.new
+        result }
+{
+    let (rest, others, marked) = read_run(alloc, tries, i)?;
+    match SetOf::with_first(first, others) {
+        Ok(set) => Ok((rest, set, marked)),
+        Err(_) => Err(Err::out_of_memory()),
     }
 }

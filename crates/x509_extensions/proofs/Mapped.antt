@@ -10,7 +10,8 @@ use Rattle.std.proofs.Math.Bool.{and_assoc, and-true}
 use Rattle.std.proofs.lemmas.Bool.{and_left, and_right, and_from}
 use Rattle.x509_der.specs.declared.oid.Oid.{Oid}
 use Rattle.x509_der.specs.Oid.{oid_bytes}
-use Rattle.x509_extensions.specs.Lookups.{has_id, oid_eq, distinct_after, distinct_by}
+use Rattle.x509_fields.specs.Groups.{oid_eq}
+use Rattle.x509_extensions.specs.Lookups.{has_id, distinct_after, distinct_by}
 
 distinct_after-append : {X : Type 0} (oid_of : X → Oid) (before xs ys : List X) → distinct_after oid_of before (xs ++ ys) ≡ (distinct_after oid_of before xs && distinct_after oid_of (before ++ xs) ys)
 unfolding distinct_after

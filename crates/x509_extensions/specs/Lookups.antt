@@ -1,14 +1,16 @@
 -- What the look-ups of extensions answer.
-use Rattle.std.specs.Prelude.{ℕ, Bool, true, not, ◌&&◌, List, [], ◌∷◌, ◌++◌, Option, Some, None, Result, Ok, Err}
+use Rattle.std.specs.Prelude.{◌≡◌, ◌⊎◌, ℕ, Bool, true, false, not, ◌&&◌, List, [], ◌∷◌, ◌++◌, Option, Some, None, Result, Ok, Err, IfOk, IfErr}
 use Rattle.std.specs.Borrow.{Bor}
-use Rattle.std.specs.List.{filter, list_any}
+use Rattle.std.specs.HashMap.{HashMap, get}
+use Rattle.std.specs.List.{filter, find, list_any}
 use Rattle.std.specs.Option.{option_copied, option_map}
 use Rattle.std.specs.Str.{bytes_eq}
 use Rattle.x509_der.specs.Oid.{oid_bytes}
 use Rattle.x509_der.specs.declared.oid.Oid.{Oid}
 use Rattle.x509_der.specs.declared.unsigned.UnsignedBytes.{UnsignedBytes}
+use Rattle.x509_fields.specs.Groups.{oid_eq}
 use Rattle.x509_fields.specs.declared.error.X509Error.{X509Error}
-use Rattle.x509_fields.specs.declared.error.X509Error.TheVariants.{DuplicateExtensions, InvalidExtensions}
+use Rattle.x509_fields.specs.declared.error.X509Error.TheVariants.{OutOfMemory, DuplicateExtensions, InvalidExtensions}
 use Rattle.x509_fields.specs.declared.version.ReasonCode.{ReasonCode}
 use Rattle.x509_fields.specs.declared.time.asn1_time.ASN1Time.{ASN1Time}
 use Rattle.x509_extensions.specs.declared.extension.X509Extension.{X509Extension}
@@ -30,10 +32,6 @@ has_id oid_of id x = bytes_eq (oid_bytes (oid_of x)) id
 -- whether the extension has it
 abbrev pub has_oid : List ℕ → X509Extension → Bool
 has_oid id = has_id (λ x. x.oid) id
-
--- whether two identifiers are the same
-abbrev pub oid_eq : Oid → Oid → Bool
-oid_eq a b = bytes_eq (oid_bytes a) (oid_bytes b)
 
 -- none, or the only one; two are refused
 unfoldable pub only : List X509Extension → Result (Option X509Extension) X509Error
@@ -59,8 +57,15 @@ distinct_after oid_of before (x ∷ xs) = not (list_any (has_id oid_of (oid_byte
 abbrev pub distinct_by : {X : Type 0} → (X → Oid) → List X → Bool
 distinct_by oid_of xs = distinct_after oid_of [] xs
 
-abbrev pub all_distinct : List X509Extension → Bool
-all_distinct xs = distinct_by (λ x. x.oid) xs
+-- What a map by identifiers promises: none stands twice, or that is the refusal; under each stands the first member with it, and under others none.
+pub record MapsEach {X S : Type 0} (oid_of : X → Oid) (twice : X509Error) (members : List X) (result : Result (HashMap Oid (Bor X) S) X509Error) : Type 0 where
+  pub distinct : IfOk result (λ _. distinct_by oid_of members ≡ true)
+  pub entries : IfOk result (λ m. (q : Oid) → option_copied (get oid_eq m q) ≡ find (has_id oid_of (oid_bytes q)) members)
+  pub refused : IfErr result (λ e. (e ≡ OutOfMemory) ⊎ ((e ≡ twice) × (distinct_by oid_of members ≡ false)))
+
+-- the same of extensions
+abbrev pub MapsExtensions : {S : Type 0} → List X509Extension → Result (HashMap Oid (Bor X509Extension) S) X509Error → Type 0
+MapsExtensions extensions result = MapsEach (λ x. x.oid) DuplicateExtensions extensions result
 
 -- ---- what the only one says
 

@@ -1,13 +1,10 @@
 //! Extensions by their identifiers.
 
-ghost use Rattle.std.specs.Prelude.{◌≡◌, true, false, IfOk, IfErr, ◌⊎◌};
-ghost use Rattle.std.specs.HashMap.{get};
+ghost use Rattle.std.specs.Prelude.{◌≡◌};
 ghost use Rattle.std.specs.List.{find};
 ghost use Rattle.std.specs.Option.{option_copied};
 ghost use Rattle.x509_der.specs.Oid.{oid_bytes};
-ghost use Rattle.x509_der.specs.declared.oid.Oid.{Oid as OidOf};
-ghost use Rattle.x509_fields.specs.declared.error.X509Error.TheVariants.{OutOfMemory, DuplicateExtensions};
-ghost use Rattle.x509_extensions.specs.Lookups.{has_oid, oid_eq, unique_of, pointed, all_distinct};
+ghost use Rattle.x509_extensions.specs.Lookups.{MapsExtensions, has_oid, unique_of, pointed};
 
 use crate::extension::X509Extension;
 use std::alloc::Global;
@@ -68,9 +65,7 @@ pub fn extensions_map<'v, 'a, S: BuildHasher + Drop>(
     extensions: &'v [X509Extension<'a>],
     hasher: S,
 ) -> Result<HashMap<Oid<'a>, &'v X509Extension<'a>, S>, X509Error>
-    ensures distinct { IfOk result (λ _. all_distinct extensions.now ≡ true) }
-    ensures entries { IfOk result (λ m. (q : OidOf) → option_copied (get oid_eq m q) ≡ find (has_oid (oid_bytes q)) extensions.now) }
-    ensures refused { IfErr result (λ e. (e ≡ OutOfMemory) ⊎ ((e ≡ DuplicateExtensions) × (all_distinct extensions.now ≡ false))) }
+    ensures { MapsExtensions extensions.now result }
 {
     let mut map = HashMap::with_hasher(alloc, hasher);
     for extension in extensions {

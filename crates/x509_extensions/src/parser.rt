@@ -1,12 +1,11 @@
 //! Readers of extensions, which look at the values or leave them alone.
 
-ghost use Rattle.std.specs.Prelude.{◌≡◌, ◌≤◌, ◌+◌, ◌-◌, ◌*◌, ⊤, true, IfOk, IsErr, length};
-ghost use Rattle.x509_der.specs.Looks.{behind, is_element};
+ghost use Rattle.std.specs.Prelude.{◌≡◌, ◌-◌, ⊤, true, length};
 ghost use Rattle.x509_der.specs.Place.{at, outside_of};
 ghost use Rattle.x509_der.specs.Primitives.{is_constructed};
-ghost use Rattle.x509_der.specs.Promises.{OneTryEach, IsForeign, GivesAt};
+ghost use Rattle.x509_der.specs.Promises.{OneTryEach, ReadsParts};
 ghost use Rattle.x509_der.specs.Leaves.{sequence as leaf_sequence};
-ghost use Rattle.x509_der.specs.Reading.{AddsAtLeast, strict};
+ghost use Rattle.x509_der.specs.Reading.{strict};
 ghost use Rattle.x509_extensions.specs.Extension.{Extension, extension_of, extension_heads, extension_laws, envelope_of, envelope_fields, envelope, extension};
 ghost use Rattle.x509_extensions.specs.Extension.{with_parsed};
 ghost use Rattle.x509_extensions.specs.Parsed.{parsed_of};
@@ -144,16 +143,10 @@ fn read_envelope_fields<'a, D, L: Outside>(
     tries: &mut Tries,
     place: &Place<'a, L>,
 ) -> Result<(Envelope<'a>, bool), Refused<X509Error, L>>
-    ensures reads { GivesAt (λ x. (behind (at place.now), envelope_of x.0)) envelope_fields L.adds (at place.now) (outside_of place.now) result }
-    ensures marks { IfOk result (λ x. x.1 ≡ envelope_fields.marks (at place.now)) }
-    ensures grows { tries.old ≤ tries.new }
-    ensures count { IfOk result (λ x. tries.new + 9 + 8 * length x.0.value.now + 8 * length (behind (at place.now)) ≤ tries.old + 8 * length (at place.now)) }
-    ensures few_tries { tries.new ≤ tries.old + (8 * length (at place.now) - 8) }
-    ensures foreign { IsForeign strict (is_constructed 16) (at place.now) → IsErr result × (tries.new ≤ tries.old) }
-    ensures least { IfOk result (λ x. AddsAtLeast (extension_heads (envelope_of x.0) - 1) tries.old tries.new) }
+    ensures parts { ReadsParts strict (is_constructed 16) (λ e. extension_heads e - 1) envelope_of (λ envelope. length envelope.value.now) envelope_fields L.adds (at place.now)
+        (outside_of place.now) tries.old tries.new result }
     // Each child of the envelope is looked at once.
     ensures once { OneTryEach leaf_sequence (at place.now) tries.old tries.new }
-    ensures there { IfOk result (λ _. is_element (at place.now) ≡ true) }
 {
     let contents = sequence_at(place)?;
     let fields = Fields::of(tries, &contents);
@@ -175,14 +168,8 @@ pub(crate) fn read_envelope<'a, D, L: Outside>(
     tries: &mut Tries,
     place: &Place<'a, L>,
 ) -> Result<(Envelope<'a>, bool), Refused<X509Error, L>>
-    ensures reads { GivesAt (λ x. (behind (at place.now), envelope_of x.0)) envelope L.adds (at place.now) (outside_of place.now) result }
-    ensures marks { IfOk result (λ x. x.1 ≡ envelope.marks (at place.now)) }
-    ensures grows { tries.old ≤ tries.new }
-    ensures count { IfOk result (λ x. tries.new + 9 + 8 * length x.0.value.now + 8 * length (behind (at place.now)) ≤ tries.old + 8 * length (at place.now)) }
-    ensures few_tries { tries.new ≤ tries.old + (8 * length (at place.now) - 8) }
-    ensures foreign { IsForeign strict (is_constructed 16) (at place.now) → IsErr result × (tries.new ≤ tries.old) }
-    ensures least { IfOk result (λ x. AddsAtLeast (extension_heads (envelope_of x.0) - 1) tries.old tries.new) }
-    ensures there { IfOk result (λ _. is_element (at place.now) ≡ true) }
+    ensures { ReadsParts strict (is_constructed 16) (λ e. extension_heads e - 1) envelope_of (λ envelope. length envelope.value.now) envelope L.adds (at place.now)
+        (outside_of place.now) tries.old tries.new result }
 {
     Ok(named!(
         read_envelope_fields::<D, L>(tries, place),

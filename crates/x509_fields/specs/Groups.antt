@@ -1,11 +1,13 @@
 -- Members grouped under their identifiers.
-use Rattle.std.specs.Prelude.{Bool, List, [], ◌∷◌, Option, Some, None, map, Vec, unwrap_or, option_map}
+use Rattle.std.specs.Prelude.{◌≡◌, Bool, List, [], ◌∷◌, Option, Some, None, Result, IfOk, IfErr, map, Vec, unwrap_or, option_map}
 use Rattle.std.specs.List.{filter}
 use Rattle.std.specs.Borrow.{Bor}
 use Rattle.std.specs.Str.{bytes_eq}
 use Rattle.std.specs.HashMap.{HashMap, get}
 use Rattle.x509_der.specs.declared.oid.Oid.{Oid}
 use Rattle.x509_der.specs.Oid.{oid_bytes}
+use Rattle.x509_fields.specs.declared.error.X509Error.{X509Error}
+use Rattle.x509_fields.specs.declared.error.X509Error.TheVariants.{OutOfMemory}
 
 -- whether two identifiers have the same octets
 abbrev pub oid_eq : Oid → Oid → Bool
@@ -31,3 +33,8 @@ group (x ∷ xs) = Some (x ∷ xs)
 -- what the members with an identifier hold, in order; none where there is no such member
 unfoldable pub grouped : {M X : Type 0} → (M → Oid) → (M → X) → List M → Oid → Option (List X)
 grouped id value xs q = group (map value (filter (λ x. oid_eq (id x) q) xs))
+
+-- What a map of groups promises: under each identifier the list of what has it, and no other list; without memory there is no map.
+pub record MapsGroups {M X : Type 0} (list_under : M → Oid → Option (List X)) (wanted : Oid → Option (List X)) (result : Result M X509Error) : Type 0 where
+  pub groups : IfOk result (λ m. (q : Oid) → list_under m q ≡ wanted q)
+  pub err : IfErr result (λ e. e ≡ OutOfMemory)

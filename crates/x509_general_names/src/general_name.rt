@@ -5,7 +5,7 @@ ghost use Rattle.std.specs.Option.{is_some};
 ghost use Rattle.x509_der.specs.Hex.{hex_text};
 ghost use Rattle.x509_der.specs.Plan.{reads_inside};
 ghost use Rattle.x509_der.specs.Primitives.{is_context};
-ghost use Rattle.x509_der.specs.Promises.{Answers, IsForeign, ReadsLeaf, option_view};
+ghost use Rattle.x509_der.specs.Promises.{IsForeign, ReadsLeaf, ReadsPart, option_heads, option_view};
 ghost use Rattle.x509_der.specs.Looks.{behind};
 ghost use Rattle.x509_der.specs.Place.{at, outside_of};
 ghost use Rattle.x509_der.specs.Reading.{AddsAtLeast, element_of, strict};
@@ -169,11 +169,8 @@ fn named<'a>(
     tries: &mut Tries,
     any: Any<'a>,
 ) -> Result<(GeneralName<'a>, bool), Err<X509Error>>
-    ensures reads { Answers is_x509_memory true (λ x. general_name_of x.0) result (Ok (named (element_of any.entry))) }
-    ensures marks { IfOk result (λ x. x.1 ≡ reads_inside (alternative_in (element_of any.entry)) (element_of any.entry).contents) }
-    ensures grows { tries.old ≤ tries.new }
-    ensures count { tries.new ≤ tries.old + 8 * length (element_of any.entry).contents }
-    ensures least { IfOk result (λ x. AddsAtLeast (general_name_heads (general_name_of x.0) - 1) tries.old tries.new) }
+    ensures { ReadsPart is_x509_memory (λ name. general_name_heads name - 1) (λ x. general_name_of x.0) (λ x. x.1) (Ok (named (element_of any.entry)))
+        (reads_inside (alternative_in (element_of any.entry)) (element_of any.entry).contents) (element_of any.entry).contents tries.old tries.new result }
 {
     let (name, plain) = read_inside(alloc, tries, any)?;
     let name = name.unwrap_or(GeneralName::Invalid(any.tag(), any.as_bytes()));
@@ -187,11 +184,9 @@ fn read_inside<'a>(
     tries: &mut Tries,
     any: Any<'a>,
 ) -> Result<(Option<GeneralName<'a>>, bool), Err<X509Error>>
-    ensures reads { Answers is_x509_memory true (λ x. option_view general_name_of x.0) result (Ok (name_inside (element_of any.entry))) }
-    ensures marks { IfOk result (λ x. x.1 ≡ reads_inside (alternative_in (element_of any.entry)) (element_of any.entry).contents) }
-    ensures grows { tries.old ≤ tries.new }
-    ensures count { tries.new ≤ tries.old + 8 * length (element_of any.entry).contents }
-    ensures least { IfOk result (λ x. IfSome x.0 (λ name. AddsAtLeast (general_name_heads (general_name_of name) - 1) tries.old tries.new)) }
+    ensures { ReadsPart is_x509_memory (λ name. option_heads general_name_heads name - 1) (λ x. option_view general_name_of x.0) (λ x. x.1)
+        (Ok (name_inside (element_of any.entry))) (reads_inside (alternative_in (element_of any.entry)) (element_of any.entry).contents)
+        (element_of any.entry).contents tries.old tries.new result }
 {
     let contents = any.as_bytes();
     match any.tag() {
@@ -250,12 +245,10 @@ fn directory_name<'a>(
     tries: &mut Tries,
     any: Any<'a>,
 ) -> Result<(Option<GeneralName<'a>>, bool), Err<X509Error>>
-    ensures reads { Answers is_x509_memory true (λ x. option_view general_name_of x.0) result
-        (Ok (value_read ((alternative directory_name (element_of any.entry).header).read (element_of any.entry).contents))) }
-    ensures marks { IfOk result (λ x. x.1 ≡ reads_inside (alternative directory_name (element_of any.entry).header) (element_of any.entry).contents) }
-    ensures grows { tries.old ≤ tries.new }
-    ensures count { tries.new ≤ tries.old + 8 * length (element_of any.entry).contents }
-    ensures least { IfOk result (λ x. IfSome x.0 (λ name. AddsAtLeast (general_name_heads (general_name_of name) - 1) tries.old tries.new)) }
+    ensures { ReadsPart is_x509_memory (λ name. option_heads general_name_heads name - 1) (λ x. option_view general_name_of x.0) (λ x. x.1)
+        (Ok (value_read ((alternative directory_name (element_of any.entry).header).read (element_of any.entry).contents)))
+        (reads_inside (alternative directory_name (element_of any.entry).header) (element_of any.entry).contents) (element_of any.entry).contents
+        tries.old tries.new result }
 {
     match X509Name::read_marked(alloc, tries, any.as_bytes()) {
         Ok((rest, name, plain)) if rest.is_empty() => {

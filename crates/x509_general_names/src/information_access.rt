@@ -1,15 +1,13 @@
 //! Where more about an issuer or a subject is found.
 
-ghost use Rattle.std.specs.Prelude.{◌≡◌, List, map, true, IfOk, IfErr};
+ghost use Rattle.std.specs.Prelude.{◌≡◌, List, map, true};
 ghost use Rattle.x509_der.specs.Iterating.{Iterates};
 ghost use Rattle.x509_der.specs.Place.{at, outside_of};
 ghost use Rattle.x509_der.specs.Primitives.{is_constructed};
 ghost use Rattle.x509_der.specs.Promises.{ReadsAt};
 ghost use Rattle.x509_der.specs.Reading.{strict};
-ghost use Rattle.x509_der.specs.declared.oid.Oid.{Oid as OidOf};
 ghost use Rattle.x509_fields.specs.Errors.{is_x509_memory};
-ghost use Rattle.x509_fields.specs.declared.error.X509Error.TheVariants.{OutOfMemory};
-ghost use Rattle.x509_fields.specs.Groups.{held, pointed};
+ghost use Rattle.x509_fields.specs.Groups.{MapsGroups, held, pointed};
 ghost use Rattle.x509_general_names.specs.InformationAccess.{Access, access_of, authority_accesses_of, subject_accesses_of, access_description};
 ghost use Rattle.x509_general_names.specs.InformationAccess.{information_access, access_heads, information_access_heads, access_description_laws};
 ghost use Rattle.x509_general_names.specs.InformationAccess.{information_access_laws, locations};
@@ -134,8 +132,7 @@ impl<'a> AuthorityInfoAccess<'a> {
         alloc: Global,
         hasher: S,
     ) -> Result<HashMap<Oid<'a>, Vec<&GeneralName<'a>>, S>, X509Error>
-        ensures groups { IfOk result (λ m. (q : OidOf) → pointed (held m q) ≡ locations self.now.accessdescs q) }
-        ensures err { IfErr result (λ e. e ≡ OutOfMemory) }
+        ensures { MapsGroups (λ m q. pointed (held m q)) (locations self.now.accessdescs) result }
     {
         lent(alloc, hasher, self.accessdescs.as_slice())
     }
@@ -150,8 +147,7 @@ impl<'a> AuthorityInfoAccess<'a> {
         alloc: Global,
         hasher: S,
     ) -> Result<HashMap<Oid<'a>, Vec<GeneralName<'a>>, S>, X509Error>
-        ensures groups { IfOk result (λ m. (q : OidOf) → held m q ≡ locations self.entry.accessdescs q) }
-        ensures err { IfErr result (λ e. e ≡ OutOfMemory) }
+        ensures { MapsGroups (λ m q. held m q) (locations self.entry.accessdescs) result }
     {
         owned(alloc, hasher, self.accessdescs.into_vec())
     }
@@ -225,8 +221,7 @@ impl<'a> SubjectInfoAccess<'a> {
         alloc: Global,
         hasher: S,
     ) -> Result<HashMap<Oid<'a>, Vec<&GeneralName<'a>>, S>, X509Error>
-        ensures groups { IfOk result (λ m. (q : OidOf) → pointed (held m q) ≡ locations self.now.accessdescs q) }
-        ensures err { IfErr result (λ e. e ≡ OutOfMemory) }
+        ensures { MapsGroups (λ m q. pointed (held m q)) (locations self.now.accessdescs) result }
     {
         lent(alloc, hasher, self.accessdescs.as_slice())
     }
@@ -241,8 +236,7 @@ impl<'a> SubjectInfoAccess<'a> {
         alloc: Global,
         hasher: S,
     ) -> Result<HashMap<Oid<'a>, Vec<GeneralName<'a>>, S>, X509Error>
-        ensures groups { IfOk result (λ m. (q : OidOf) → held m q ≡ locations self.entry.accessdescs q) }
-        ensures err { IfErr result (λ e. e ≡ OutOfMemory) }
+        ensures { MapsGroups (λ m q. held m q) (locations self.entry.accessdescs) result }
     {
         owned(alloc, hasher, self.accessdescs.into_vec())
     }
@@ -312,8 +306,7 @@ fn lent<'v, 'a, S: BuildHasher + Drop>(
     hasher: S,
     accesses: &'v [AccessDescription<'a>],
 ) -> Result<HashMap<Oid<'a>, Vec<&'v GeneralName<'a>>, S>, X509Error>
-    ensures groups { IfOk result (λ m. (q : OidOf) → pointed (held m q) ≡ locations accesses.now q) }
-    ensures err { IfErr result (λ e. e ≡ OutOfMemory) }
+    ensures { MapsGroups (λ m q. pointed (held m q)) (locations accesses.now) result }
 {
     let mut map = HashMap::with_hasher(alloc, hasher);
     for access in accesses {
@@ -334,8 +327,7 @@ fn owned<'a, S: BuildHasher + Drop>(
     hasher: S,
     accesses: Vec<AccessDescription<'a>>,
 ) -> Result<HashMap<Oid<'a>, Vec<GeneralName<'a>>, S>, X509Error>
-    ensures groups { IfOk result (λ m. (q : OidOf) → held m q ≡ locations accesses.entry.items q) }
-    ensures err { IfErr result (λ e. e ≡ OutOfMemory) }
+    ensures { MapsGroups (λ m q. held m q) (locations accesses.entry.items) result }
 {
     let mut map = HashMap::with_hasher(alloc, hasher);
     for access in accesses {

@@ -1,14 +1,11 @@
 //! Extensions of a list and of a revoked certificate by their identifiers, and what they say.
 
-ghost use Rattle.std.specs.Prelude.{◌≡◌, option_map, true, false, IfOk, IfErr, ◌⊎◌};
-ghost use Rattle.std.specs.HashMap.{get};
+ghost use Rattle.std.specs.Prelude.{◌≡◌, option_map};
 ghost use Rattle.std.specs.List.{find};
 ghost use Rattle.std.specs.Option.{option_copied};
 ghost use Rattle.x509_der.specs.Oid.{oid_bytes};
-ghost use Rattle.x509_der.specs.declared.oid.Oid.{Oid as OidOf};
-ghost use Rattle.x509_fields.specs.declared.error.X509Error.TheVariants.{OutOfMemory, DuplicateExtensions};
 ghost use Rattle.x509_names.specs.Objects as objects;
-ghost use Rattle.x509_extensions.specs.Lookups.{has_oid, oid_eq, all_distinct, first_said, crl_number_in, reason_code_in, invalidity_date_in};
+ghost use Rattle.x509_extensions.specs.Lookups.{MapsExtensions, has_oid, first_said, crl_number_in, reason_code_in, invalidity_date_in};
 
 use crate::certificate_list::CertificateListOf;
 use crate::revoked_certificate::RevokedCertificate;
@@ -39,9 +36,7 @@ impl<'a, R> TbsCertListOf<'a, R> {
         alloc: Global,
         hasher: S,
     ) -> Result<HashMap<Oid<'a>, &X509Extension<'a>, S>, X509Error>
-        ensures distinct { IfOk result (λ _. all_distinct self.now.extensions ≡ true) }
-        ensures entries { IfOk result (λ m. (q : OidOf) → option_copied (get oid_eq m q) ≡ find (has_oid (oid_bytes q)) self.now.extensions) }
-        ensures refused { IfErr result (λ e. (e ≡ OutOfMemory) ⊎ ((e ≡ DuplicateExtensions) × (all_distinct self.now.extensions ≡ false))) }
+        ensures { MapsExtensions self.now.extensions result }
     {
         x509_extensions::extensions_map(alloc, self.extensions(), hasher)
     }
@@ -65,9 +60,7 @@ impl<'a> RevokedCertificate<'a> {
         alloc: Global,
         hasher: S,
     ) -> Result<HashMap<Oid<'a>, &X509Extension<'a>, S>, X509Error>
-        ensures distinct { IfOk result (λ _. all_distinct self.now.extensions ≡ true) }
-        ensures entries { IfOk result (λ m. (q : OidOf) → option_copied (get oid_eq m q) ≡ find (has_oid (oid_bytes q)) self.now.extensions) }
-        ensures refused { IfErr result (λ e. (e ≡ OutOfMemory) ⊎ ((e ≡ DuplicateExtensions) × (all_distinct self.now.extensions ≡ false))) }
+        ensures { MapsExtensions self.now.extensions result }
     {
         x509_extensions::extensions_map(alloc, self.extensions(), hasher)
     }

@@ -9,7 +9,7 @@ use Rattle.x509_fields.specs.declared.error.X509Error.{X509Error}
 use Rattle.x509_fields.specs.Errors.{is_x509_memory}
 use Rattle.x509_fields.specs.Fields.{Field}
 use Rattle.x509_report_objects.specs.Attempts.{refused_of}
-use Rattle.x509_report_objects.specs.Objects.{Refused, Told, refused_at, refused_told}
+use Rattle.x509_report_objects.specs.Objects.{Told, refused_at, refused_told}
 
 pub refused_where : {A X : Type 0} (view : X → List ℕ × A) (plan : Field A) (octets : List ℕ) (e : Located X509Error) → Agrees plan → IsBytes octets
     → ReadsWhere is_x509_memory true view plan octets (Err e) → is_excused is_x509_memory true e.why ≡ false → (plan.read octets ≡ Err e.why) × (refused_at plan octets ≡ e.at)

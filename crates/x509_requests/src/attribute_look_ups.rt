@@ -1,14 +1,10 @@
 //! Attributes of a request by their identifiers.
 
-ghost use Rattle.std.specs.Prelude.{◌≡◌, true, false, IfOk, IfErr, ◌⊎◌};
-ghost use Rattle.std.specs.HashMap.{get};
+ghost use Rattle.std.specs.Prelude.{◌≡◌};
 ghost use Rattle.std.specs.List.{find};
 ghost use Rattle.std.specs.Option.{option_copied};
 ghost use Rattle.x509_der.specs.Oid.{oid_bytes};
-ghost use Rattle.x509_der.specs.declared.oid.Oid.{Oid as OidOf};
-ghost use Rattle.x509_fields.specs.declared.error.X509Error.TheVariants.{OutOfMemory, DuplicateAttributes};
-ghost use Rattle.x509_extensions.specs.Lookups.{oid_eq};
-ghost use Rattle.x509_requests.specs.AttributeLookUps.{has_type, all_distinct};
+ghost use Rattle.x509_requests.specs.AttributeLookUps.{MapsAttributes, has_type};
 
 use crate::cri_attribute::X509CriAttribute;
 use crate::request_info::X509CertificationRequestInfo;
@@ -44,9 +40,7 @@ impl<'a> X509CertificationRequestInfo<'a> {
         alloc: Global,
         hasher: S,
     ) -> Result<HashMap<Oid<'a>, &X509CriAttribute<'a>, S>, X509Error>
-        ensures distinct { IfOk result (λ _. all_distinct self.now.attributes ≡ true) }
-        ensures entries { IfOk result (λ m. (q : OidOf) → option_copied (get oid_eq m q) ≡ find (has_type (oid_bytes q)) self.now.attributes) }
-        ensures refused { IfErr result (λ e. (e ≡ OutOfMemory) ⊎ ((e ≡ DuplicateAttributes) × (all_distinct self.now.attributes ≡ false))) }
+        ensures { MapsAttributes self.now.attributes result }
     {
         attributes_map(alloc, self.attributes(), hasher)
     }
@@ -58,9 +52,7 @@ fn attributes_map<'v, 'a, S: BuildHasher + Drop>(
     attributes: &'v [X509CriAttribute<'a>],
     hasher: S,
 ) -> Result<HashMap<Oid<'a>, &'v X509CriAttribute<'a>, S>, X509Error>
-    ensures distinct { IfOk result (λ _. all_distinct attributes.now ≡ true) }
-    ensures entries { IfOk result (λ m. (q : OidOf) → option_copied (get oid_eq m q) ≡ find (has_type (oid_bytes q)) attributes.now) }
-    ensures refused { IfErr result (λ e. (e ≡ OutOfMemory) ⊎ ((e ≡ DuplicateAttributes) × (all_distinct attributes.now ≡ false))) }
+    ensures { MapsAttributes attributes.now result }
 {
     let mut map = HashMap::with_hasher(alloc, hasher);
     for attribute in attributes {

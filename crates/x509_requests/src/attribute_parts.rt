@@ -1,11 +1,11 @@
 //! The parts of an attribute.
 
-ghost use Rattle.std.specs.Prelude.{◌≡◌, ◌≤◌, ◌+◌, ◌-◌, ◌*◌, true, IfOk, IsErr, length};
-ghost use Rattle.x509_der.specs.Looks.{behind, is_element};
+ghost use Rattle.std.specs.Prelude.{◌≡◌, ◌≤◌, ◌+◌, true, IfOk, length};
+ghost use Rattle.x509_der.specs.Looks.{behind};
 ghost use Rattle.x509_der.specs.Place.{at, outside_of, bytes_in, outside_in};
 ghost use Rattle.x509_der.specs.Primitives.{is_constructed};
-ghost use Rattle.x509_der.specs.Promises.{IsForeign, ReadsLeaf, GivesAt, ReadsWindow};
-ghost use Rattle.x509_der.specs.Reading.{AddsAtLeast, element_of, loose};
+ghost use Rattle.x509_der.specs.Promises.{ReadsLeaf, ReadsParts, ReadsWindow};
+ghost use Rattle.x509_der.specs.Reading.{element_of, loose};
 ghost use Rattle.x509_fields.specs.Fields.{lifted};
 ghost use Rattle.x509_requests.specs.CriAttribute.{parts_of, set_of, loose_sequence, attribute_set, attribute_fields, attribute_parts};
 
@@ -76,15 +76,8 @@ fn read_attribute_fields<'a, L: Outside>(
     tries: &mut Tries,
     place: &Place<'a, L>,
 ) -> Result<(AttributeParts<'a>, bool), Refused<X509Error, L>>
-    ensures reads { GivesAt (λ x. (behind (at place.now), parts_of x.0)) attribute_fields L.adds (at place.now) (outside_of place.now) result }
-    ensures marks { IfOk result (λ x. x.1 ≡ attribute_fields.marks (at place.now)) }
-    ensures grows { tries.old ≤ tries.new }
-    ensures count { IfOk result
-        (λ x. tries.new + 9 + 8 * length (element_of x.0.element).contents + 8 * length (behind (at place.now)) ≤ tries.old + 8 * length (at place.now)) }
-    ensures few_tries { tries.new ≤ tries.old + (8 * length (at place.now) - 8) }
-    ensures foreign { IsForeign loose (is_constructed 16) (at place.now) → IsErr result × (tries.new ≤ tries.old) }
-    ensures least { IfOk result (λ _. AddsAtLeast 2 tries.old tries.new) }
-    ensures there { IfOk result (λ _. is_element (at place.now) ≡ true) }
+    ensures { ReadsParts loose (is_constructed 16) (λ _. 2) parts_of (λ parts. length (element_of parts.element).contents) attribute_fields L.adds (at place.now)
+        (outside_of place.now) tries.old tries.new result }
 {
     let contents = loose_sequence_at(place)?;
     let fields = Fields::of(tries, &contents);
@@ -107,15 +100,8 @@ pub(crate) fn read_attribute_parts<'a, L: Outside>(
     tries: &mut Tries,
     place: &Place<'a, L>,
 ) -> Result<(AttributeParts<'a>, bool), Refused<X509Error, L>>
-    ensures reads { GivesAt (λ x. (behind (at place.now), parts_of x.0)) attribute_parts L.adds (at place.now) (outside_of place.now) result }
-    ensures marks { IfOk result (λ x. x.1 ≡ attribute_parts.marks (at place.now)) }
-    ensures grows { tries.old ≤ tries.new }
-    ensures count { IfOk result
-        (λ x. tries.new + 9 + 8 * length (element_of x.0.element).contents + 8 * length (behind (at place.now)) ≤ tries.old + 8 * length (at place.now)) }
-    ensures few_tries { tries.new ≤ tries.old + (8 * length (at place.now) - 8) }
-    ensures foreign { IsForeign loose (is_constructed 16) (at place.now) → IsErr result × (tries.new ≤ tries.old) }
-    ensures least { IfOk result (λ _. AddsAtLeast 2 tries.old tries.new) }
-    ensures there { IfOk result (λ _. is_element (at place.now) ≡ true) }
+    ensures { ReadsParts loose (is_constructed 16) (λ _. 2) parts_of (λ parts. length (element_of parts.element).contents) attribute_parts L.adds (at place.now)
+        (outside_of place.now) tries.old tries.new result }
 {
     Ok(named!(
         read_attribute_fields(tries, place),

@@ -38,3 +38,8 @@ WantsMemory e = e ≡ OutOfMemory
 -- a run that has these messages to log, and then this answer to give
 abbrev pub Logs : {L A : Type 0} → (L → Message → Logged → L → Type 0) → L → List Message → A → Result A X509Error → L → Type 0
 Logs step s ms answer result t = Runs WantsMemory step s ms answer result t
+
+-- What a part of a validator promises: its run, behind which more can be logged.
+pub record Validates {L A : Type 0} (can_log : L → Type 0) (step : L → Message → Logged → L → Type 0) (s : L) (ms : List Message) (answer : A) (result : Result A X509Error) (t : L) : Type 0 where
+  pub can : can_log t
+  pub logs : Logs step s ms answer result t

@@ -5,7 +5,7 @@ ghost use Rattle.std.specs.List.{flat_map};
 ghost use Rattle.x509_extensions.specs.Extension.{extension_of};
 ghost use Rattle.x509_extensions.specs.Parsed.{parsed_of};
 ghost use Rattle.x509_general_names.specs.GeneralName.{general_name_of};
-ghost use Rattle.x509_validators.specs.Message.{Logs};
+ghost use Rattle.x509_validators.specs.Message.{Validates};
 ghost use Rattle.x509_validators.specs.AlternativeNames.{text_warnings, general_name_warnings, names_warnings, alternative_name_warnings, names_in};
 
 use crate::charset::are_ascii;
@@ -27,8 +27,7 @@ fn check_alternative_names<L: Logger>(
     logger: &mut L,
 ) -> Result<(), X509Error>
     requires { L.can_log logger.old }
-    ensures can { L.can_log logger.new }
-    ensures logs { Logs L.step logger.old (alternative_name_warnings (parsed_of value.now)) tt result logger.new }
+    ensures { Validates L.can_log L.step logger.old (alternative_name_warnings (parsed_of value.now)) tt result logger.new }
 {
     match value {
         ParsedExtension::SubjectAlternativeName(names) => {
@@ -50,8 +49,7 @@ pub(crate) fn check_names<L: Logger>(
     logger: &mut L,
 ) -> Result<(), X509Error>
     requires { L.can_log logger.old }
-    ensures can { L.can_log logger.new }
-    ensures logs { Logs L.step logger.old (names_warnings (map general_name_of names.now)) tt result logger.new }
+    ensures { Validates L.can_log L.step logger.old (names_warnings (map general_name_of names.now)) tt result logger.new }
 {
     for name in names {
         check_name(alloc, name, logger)?;
@@ -66,8 +64,7 @@ fn check_name<L: Logger>(
     logger: &mut L,
 ) -> Result<(), X509Error>
     requires { L.can_log logger.old }
-    ensures can { L.can_log logger.new }
-    ensures logs { Logs L.step logger.old (general_name_warnings (general_name_of name.now)) tt result logger.new }
+    ensures { Validates L.can_log L.step logger.old (general_name_warnings (general_name_of name.now)) tt result logger.new }
 {
     match name {
         GeneralName::RFC822Name(text) | GeneralName::DNSName(text) => check_text(
@@ -80,8 +77,7 @@ fn check_name<L: Logger>(
 #[tactic(auto, unfolding(crate::specs::AlternativeNames::text_warnings))]
 fn check_text<L: Logger>(alloc: Global, text: &str, logger: &mut L) -> Result<(), X509Error>
     requires { L.can_log logger.old }
-    ensures can { L.can_log logger.new }
-    ensures logs { Logs L.step logger.old (text_warnings text.now) tt result logger.new }
+    ensures { Validates L.can_log L.step logger.old (text_warnings text.now) tt result logger.new }
 {
     let found = !are_ascii(text.as_bytes());
     log_warning_if(
@@ -104,8 +100,7 @@ pub(crate) fn check_names_in<L: Logger>(
     logger: &mut L,
 ) -> Result<(), X509Error>
     requires { L.can_log logger.old }
-    ensures can { L.can_log logger.new }
-    ensures logs { Logs L.step logger.old (flat_map names_in (map extension_of extensions.now)) tt result logger.new }
+    ensures { Validates L.can_log L.step logger.old (flat_map names_in (map extension_of extensions.now)) tt result logger.new }
 {
     for extension in extensions {
         check_extension(alloc, extension, logger)?;
@@ -119,8 +114,7 @@ fn check_extension<L: Logger>(
     logger: &mut L,
 ) -> Result<(), X509Error>
     requires { L.can_log logger.old }
-    ensures can { L.can_log logger.new }
-    ensures logs { Logs L.step logger.old (names_in (extension_of extension.now)) tt result logger.new }
+    ensures { Validates L.can_log L.step logger.old (names_in (extension_of extension.now)) tt result logger.new }
 {
     let value = extension.parsed_extension();
     check_alternative_names(alloc, value, logger)

@@ -2,7 +2,7 @@
 
 ghost use Rattle.std.specs.Prelude.{◌≡◌, ℕ, List, [], ◌∷◌, ◌++◌, OnOk, map};
 ghost use Rattle.x509_der.specs.Oid.{oid_bytes};
-ghost use Rattle.x509_validators.specs.Message.{Logs};
+ghost use Rattle.x509_validators.specs.Message.{Logs, Validates};
 ghost use Rattle.x509_validators.specs.Duplicates.{IsSetOf, is_new, repeat_error, repeat_errors, all_distinct};
 
 use crate::logger::{Logger, log_error_if};
@@ -36,8 +36,7 @@ pub(crate) fn check_duplicates<T: Identified, L: Logger>(
     logger: &mut L,
 ) -> Result<bool, X509Error>
     requires { L.can_log logger.old }
-    ensures can { L.can_log logger.new }
-    ensures logs { Logs L.step logger.old (repeat_errors label.now (map T.id members.now)) (all_distinct (map T.id members.now)) result logger.new }
+    ensures { Validates L.can_log L.step logger.old (repeat_errors label.now (map T.id members.now)) (all_distinct (map T.id members.now)) result logger.new }
 {
     // One member alone needs no set.
     if members.len() < 2 {

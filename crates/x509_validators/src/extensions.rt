@@ -6,7 +6,7 @@ ghost use Rattle.x509_general_names.specs.AuthorityKeyIdentifier.{authority_key_
 ghost use Rattle.x509_der.specs.Oid.{oid_bytes};
 ghost use Rattle.x509_extensions.specs.Extension.{extension_of};
 ghost use Rattle.x509_extensions.specs.Parsed.{parsed_of};
-ghost use Rattle.x509_validators.specs.Message.{Logs};
+ghost use Rattle.x509_validators.specs.Message.{Validates};
 ghost use Rattle.x509_values.specs.KeyUsage.{key_usage_of};
 ghost use Rattle.x509_values.specs.Policies.{policy_of};
 ghost use Rattle.x509_validators.specs.Duplicates.{all_distinct};
@@ -70,8 +70,7 @@ pub(crate) fn check_extensions<L: Logger>(
     logger: &mut L,
 ) -> Result<bool, X509Error>
     requires { L.can_log logger.old }
-    ensures can { L.can_log logger.new }
-    ensures logs { Logs L.step logger.old (extensions_messages (map extension_of extensions.now))
+    ensures { Validates L.can_log L.step logger.old (extensions_messages (map extension_of extensions.now))
         (are_sound (map extension_of extensions.now)) result logger.new }
 {
     let distinct = check_identifiers(alloc, extensions, logger)?;
@@ -86,8 +85,7 @@ fn check_identifiers<L: Logger>(
     logger: &mut L,
 ) -> Result<bool, X509Error>
     requires { L.can_log logger.old }
-    ensures can { L.can_log logger.new }
-    ensures logs { Logs L.step logger.old (extension_errors (map extension_of extensions.now))
+    ensures { Validates L.can_log L.step logger.old (extension_errors (map extension_of extensions.now))
         (all_distinct (extension_ids (map extension_of extensions.now))) result logger.new }
 {
     check_duplicates(alloc, "Duplicate extension ", extensions, logger)
@@ -100,8 +98,7 @@ fn check_values<L: Logger>(
     logger: &mut L,
 ) -> Result<bool, X509Error>
     requires { L.can_log logger.old }
-    ensures can { L.can_log logger.new }
-    ensures logs { Logs L.step logger.old (flat_map extension_messages (map extension_of extensions.now))
+    ensures { Validates L.can_log L.step logger.old (flat_map extension_messages (map extension_of extensions.now))
         (list_all is_sound_extension (map extension_of extensions.now)) result logger.new }
 {
     let mut sound = true;
@@ -117,8 +114,7 @@ fn check_extension<L: Logger>(
     logger: &mut L,
 ) -> Result<bool, X509Error>
     requires { L.can_log logger.old }
-    ensures can { L.can_log logger.new }
-    ensures logs { Logs L.step logger.old (extension_messages (extension_of extension.now))
+    ensures { Validates L.can_log L.step logger.old (extension_messages (extension_of extension.now))
         (is_sound_extension (extension_of extension.now)) result logger.new }
 {
     let value = extension.parsed_extension();
@@ -133,8 +129,7 @@ fn check_value<L: Logger>(
     logger: &mut L,
 ) -> Result<bool, X509Error>
     requires { L.can_log logger.old }
-    ensures can { L.can_log logger.new }
-    ensures logs { Logs L.step logger.old (value_messages critical (parsed_of value.now)) (is_sound_value (parsed_of value.now)) result logger.new }
+    ensures { Validates L.can_log L.step logger.old (value_messages critical (parsed_of value.now)) (is_sound_value (parsed_of value.now)) result logger.new }
 {
     match value {
         ParsedExtension::AuthorityKeyIdentifier(id) => {
@@ -163,8 +158,7 @@ fn check_policies<L: Logger>(
     logger: &mut L,
 ) -> Result<bool, X509Error>
     requires { L.can_log logger.old }
-    ensures can { L.can_log logger.new }
-    ensures logs { Logs L.step logger.old (policy_errors (map policy_of policies.now))
+    ensures { Validates L.can_log L.step logger.old (policy_errors (map policy_of policies.now))
         (all_distinct (policy_ids (map policy_of policies.now))) result logger.new }
 {
     let label = "Certificate Policies: duplicate policy ";

@@ -3,7 +3,7 @@
 ghost use Rattle.std.specs.Prelude.{◌≡◌};
 ghost use Rattle.x509_der.specs.Reading.{element_of};
 ghost use Rattle.x509_names.specs.Names.{attribute_of};
-ghost use Rattle.x509_validators.specs.Message.{Logs};
+ghost use Rattle.x509_validators.specs.Message.{Validates};
 ghost use Rattle.x509_validators.specs.Names.{attribute_warnings, is_out_of_charset};
 
 use crate::charset::are_ascii;
@@ -51,8 +51,7 @@ fn check_attribute<L: Logger>(
     logger: &mut L,
 ) -> Result<(), X509Error>
     requires { L.can_log logger.old }
-    ensures can { L.can_log logger.new }
-    ensures logs { Logs L.step logger.old (attribute_warnings (attribute_of attribute.now)) tt result logger.new }
+    ensures { Validates L.can_log L.step logger.old (attribute_warnings (attribute_of attribute.now)) tt result logger.new }
 {
     let oid = attribute.attr_type();
     let found = is_out_of_charset(attribute.attr_value());

@@ -3,7 +3,7 @@
 ghost use Rattle.std.specs.Prelude.{◌≡◌, map};
 ghost use Rattle.x509_keys.specs.PublicKey.{public_key_of};
 ghost use Rattle.x509_keys.specs.RsaPublicKey.{rsa_key_of};
-ghost use Rattle.x509_validators.specs.Message.{Logs};
+ghost use Rattle.x509_validators.specs.Message.{Validates};
 ghost use Rattle.x509_validators.specs.PublicKey.{is_negative, known_rules, rsa_rules};
 ghost use Rattle.x509_validators.specs.Rules.{row_of, told};
 
@@ -54,8 +54,7 @@ impl<'a> Validator<'a> for X509PublicKeyValidator {
 #[tactic(auto, using(crate::proofs::Logs::logging), unfolding(crate::specs::PublicKey::known_rules))]
 fn check_key<L: Logger>(alloc: Global, key: &PublicKey<'_>, logger: &mut L) -> Result<(), X509Error>
     requires { L.can_log logger.old }
-    ensures can { L.can_log logger.new }
-    ensures logs { Logs L.step logger.old (told (known_rules (public_key_of key.now))) tt result logger.new }
+    ensures { Validates L.can_log L.step logger.old (told (known_rules (public_key_of key.now))) tt result logger.new }
 {
     match key {
         PublicKey::RSA(key) => log_broken(alloc, &rsa_rules(key), logger),

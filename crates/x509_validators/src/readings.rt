@@ -6,7 +6,7 @@ ghost use Rattle.std.specs.Option.{is_some};
 ghost use Rattle.x509_der.specs.Oid.{oid_bytes};
 ghost use Rattle.x509_extensions.specs.Extension.{extension_of};
 ghost use Rattle.x509_extensions.specs.Parsed.{parsed_of, error_in};
-ghost use Rattle.x509_validators.specs.Message.{Logs};
+ghost use Rattle.x509_validators.specs.Message.{Validates};
 ghost use Rattle.x509_validators.specs.Readings.{unsupported_warnings, refusal_error, refusal_errors, reading_messages, is_readable};
 
 use crate::logger::{Logger, log_error_if, log_warning_if};
@@ -28,8 +28,7 @@ pub(crate) fn check_readings<L: Logger>(
     logger: &mut L,
 ) -> Result<bool, X509Error>
     requires { L.can_log logger.old }
-    ensures can { L.can_log logger.new }
-    ensures logs { Logs L.step logger.old (flat_map reading_messages (map extension_of extensions.now))
+    ensures { Validates L.can_log L.step logger.old (flat_map reading_messages (map extension_of extensions.now))
         (list_all is_readable (map extension_of extensions.now)) result logger.new }
 {
     let mut readable = true;
@@ -46,8 +45,7 @@ fn check_reading<L: Logger>(
     logger: &mut L,
 ) -> Result<bool, X509Error>
     requires { L.can_log logger.old }
-    ensures can { L.can_log logger.new }
-    ensures logs { Logs L.step logger.old (reading_messages (extension_of extension.now)) (is_readable (extension_of extension.now)) result logger.new }
+    ensures { Validates L.can_log L.step logger.old (reading_messages (extension_of extension.now)) (is_readable (extension_of extension.now)) result logger.new }
 {
     let value = extension.parsed_extension();
     check_known(alloc, &extension.oid, value, logger)?;
@@ -63,8 +61,7 @@ fn check_known<L: Logger>(
     logger: &mut L,
 ) -> Result<(), X509Error>
     requires { L.can_log logger.old }
-    ensures can { L.can_log logger.new }
-    ensures logs { Logs L.step logger.old (unsupported_warnings (oid_bytes oid.now) (parsed_of value.now)) tt result logger.new }
+    ensures { Validates L.can_log L.step logger.old (unsupported_warnings (oid_bytes oid.now) (parsed_of value.now)) tt result logger.new }
 {
     let found = value.unsupported();
     log_warning_if(
@@ -83,8 +80,7 @@ fn check_refusal<L: Logger>(
     logger: &mut L,
 ) -> Result<bool, X509Error>
     requires { L.can_log logger.old }
-    ensures can { L.can_log logger.new }
-    ensures logs { Logs L.step logger.old (refusal_errors (oid_bytes oid.now) (error_in (parsed_of value.now)))
+    ensures { Validates L.can_log L.step logger.old (refusal_errors (oid_bytes oid.now) (error_in (parsed_of value.now)))
         (not (is_some (error_in (parsed_of value.now)))) result logger.new }
 {
     match value.error() {
@@ -104,8 +100,7 @@ fn report_refusal<L: Logger>(
     logger: &mut L,
 ) -> Result<(), X509Error>
     requires { L.can_log logger.old }
-    ensures can { L.can_log logger.new }
-    ensures logs { Logs L.step logger.old (refusal_error (oid_bytes oid.now) refusal.now) tt result logger.new }
+    ensures { Validates L.can_log L.step logger.old (refusal_error (oid_bytes oid.now) refusal.now) tt result logger.new }
 {
     let word = refusal.word();
     log_error_if(

@@ -1,7 +1,7 @@
 //! Rules as rows of a table: how much one matters, whether an item breaks it, and what is told then.
 
 ghost use Rattle.std.specs.Prelude.{◌≡◌, ◌++◌, map};
-ghost use Rattle.x509_validators.specs.Message.{Logs};
+ghost use Rattle.x509_validators.specs.Message.{Validates};
 ghost use Rattle.x509_validators.specs.Rules.{error_where, row_message, row_of, text_of, told, warning_where};
 
 use crate::logger::{Logger, log_error_if, log_warning_if};
@@ -98,8 +98,7 @@ pub(crate) fn log_broken<L: Logger>(
     logger: &mut L,
 ) -> Result<(), X509Error>
     requires { L.can_log logger.old }
-    ensures can { L.can_log logger.new }
-    ensures logs { Logs L.step logger.old (told (map row_of rules.now)) tt result logger.new }
+    ensures { Validates L.can_log L.step logger.old (told (map row_of rules.now)) tt result logger.new }
 {
     for rule in rules {
         log_rule(alloc, rule, logger)?;
@@ -109,8 +108,7 @@ pub(crate) fn log_broken<L: Logger>(
 
 fn log_rule<L: Logger>(alloc: Global, rule: &Rule<'_>, logger: &mut L) -> Result<(), X509Error>
     requires { L.can_log logger.old }
-    ensures can { L.can_log logger.new }
-    ensures logs { Logs L.step logger.old (row_message (row_of rule.now)) tt result logger.new }
+    ensures { Validates L.can_log L.step logger.old (row_message (row_of rule.now)) tt result logger.new }
 {
     match rule.level {
         Level::Warning => log_warning_if(alloc, logger, rule.broken, rule.text),

@@ -3,7 +3,7 @@
 ghost use Rattle.std.specs.Prelude.{◌≡◌, map};
 ghost use Rattle.x509_certs.specs.TbsCertificate.{tbs_of};
 ghost use Rattle.x509_extensions.specs.Extension.{extension_of};
-ghost use Rattle.x509_validators.specs.Message.{Logs};
+ghost use Rattle.x509_validators.specs.Message.{Validates};
 ghost use Rattle.x509_validators.specs.Rules.{row_of};
 ghost use Rattle.x509_validators.specs.SignedPart.{are_fields_sound, are_numbers_sound, are_readable, extension_part_messages, field_messages};
 ghost use Rattle.x509_validators.specs.SignedPart.{is_key_sound, is_signed_part_sound, number_rules, party_messages, period_rules, signed_part_messages};
@@ -85,8 +85,7 @@ fn check_signed_part<L: Logger>(
     logger: &mut L,
 ) -> Result<bool, X509Error>
     requires { L.can_log logger.old }
-    ensures can { L.can_log logger.new }
-    ensures logs { Logs L.step logger.old (signed_part_messages (tbs_of tbs.now)) (is_signed_part_sound (tbs_of tbs.now)) result logger.new }
+    ensures { Validates L.can_log L.step logger.old (signed_part_messages (tbs_of tbs.now)) (is_signed_part_sound (tbs_of tbs.now)) result logger.new }
 {
     let fields = check_fields(alloc, tbs, logger)?;
     let readable = check_extension_part(alloc, tbs.extensions(), logger)?;
@@ -101,8 +100,7 @@ fn check_fields<L: Logger>(
     logger: &mut L,
 ) -> Result<bool, X509Error>
     requires { L.can_log logger.old }
-    ensures can { L.can_log logger.new }
-    ensures logs { Logs L.step logger.old (field_messages (tbs_of tbs.now)) (are_fields_sound (tbs_of tbs.now)) result logger.new }
+    ensures { Validates L.can_log L.step logger.old (field_messages (tbs_of tbs.now)) (are_fields_sound (tbs_of tbs.now)) result logger.new }
 {
     log_broken(alloc, &number_rules(tbs), logger)?;
     let key = check_parties(alloc, tbs, logger)?;
@@ -149,8 +147,7 @@ fn check_parties<L: Logger>(
     logger: &mut L,
 ) -> Result<bool, X509Error>
     requires { L.can_log logger.old }
-    ensures can { L.can_log logger.new }
-    ensures logs { Logs L.step logger.old (party_messages (tbs_of tbs.now)) (is_key_sound (tbs_of tbs.now)) result logger.new }
+    ensures { Validates L.can_log L.step logger.old (party_messages (tbs_of tbs.now)) (is_key_sound (tbs_of tbs.now)) result logger.new }
 {
     X509NameStructureValidator.validate(alloc, &tbs.subject, logger)?;
     X509NameStructureValidator.validate(alloc, &tbs.issuer, logger)?;
@@ -166,8 +163,7 @@ fn check_extension_part<L: Logger>(
     logger: &mut L,
 ) -> Result<bool, X509Error>
     requires { L.can_log logger.old }
-    ensures can { L.can_log logger.new }
-    ensures logs { Logs L.step logger.old (extension_part_messages (map extension_of extensions.now))
+    ensures { Validates L.can_log L.step logger.old (extension_part_messages (map extension_of extensions.now))
         (are_readable (map extension_of extensions.now)) result logger.new }
 {
     let readable = check_readings(alloc, extensions, logger)?;

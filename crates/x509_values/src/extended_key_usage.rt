@@ -1,12 +1,12 @@
 //! What a key may be used for, by identifiers.
 
-ghost use Rattle.std.specs.Prelude.{◌≡◌, ℕ, List, [], ◌∷◌, ◌++◌, ◌+◌, ◌-◌, ◌*◌, ◌≤◌, IfOk, OnOk, MatchOption, MatchResult, length, map, false, true};
+ghost use Rattle.std.specs.Prelude.{◌≡◌, ℕ, List, [], ◌∷◌, ◌++◌, ◌+◌, ◌-◌, OnOk, MatchOption, MatchResult, map, false, true};
 ghost use Rattle.std.specs.Prelude.{if◌then◌else◌};
 ghost use Rattle.x509_der.specs.Oid.{oid_bytes};
 ghost use Rattle.x509_der.specs.Plan.{marks_of_members};
 ghost use Rattle.x509_der.specs.Primitives.{is_constructed, is_primitive};
-ghost use Rattle.x509_der.specs.Promises.{Answers, is_excused};
-ghost use Rattle.x509_der.specs.Reading.{AddsAtLeast, strict};
+ghost use Rattle.x509_der.specs.Promises.{ReadsPart, is_excused};
+ghost use Rattle.x509_der.specs.Reading.{strict};
 ghost use Rattle.x509_fields.specs.Errors.{is_x509_memory};
 ghost use Rattle.x509_values.specs.ExtendedKeyUsage.{AreBehindFirst, Usages, named_purposes, octets_of, holds, usages_in, usages_of, usages_heads};
 ghost use Rattle.x509_values.specs.ExtendedKeyUsage.{key_purpose_of, key_purpose, key_purpose_laws, said_at, extended_key_usage, extended_key_usage_laws};
@@ -192,11 +192,8 @@ fn read_purposes<'a>(
     tries: &mut Tries,
     i: &'a [u8],
 ) -> Result<(&'a [u8], ExtendedKeyUsage<'a>, bool), Err<X509Error>>
-    ensures reads { Answers is_x509_memory true (λ x. (x.0.now, usages_of x.1)) result (said_at i.now) }
-    ensures marks { IfOk result (λ x. x.2 ≡ marks_of_members key_purpose i.now) }
-    ensures grows { tries.old ≤ tries.new }
-    ensures count { tries.new ≤ tries.old + 8 * length i.now }
-    ensures least { IfOk result (λ x. AddsAtLeast (usages_heads (usages_of x.1) - 1) tries.old tries.new) }
+    ensures { ReadsPart is_x509_memory (λ usages. usages_heads usages.1 - 1) (λ x. (x.0.now, usages_of x.1)) (λ x. x.2) (said_at i.now)
+        (marks_of_members key_purpose i.now) i.now tries.old tries.new result }
 {
     let mut usage = ExtendedKeyUsage::none(alloc);
     let mut seen = BTreeSet::new(alloc);

@@ -1,12 +1,10 @@
 //! Policies that two authorities hold for equivalent.
 
-ghost use Rattle.std.specs.Prelude.{◌≡◌, List, IfErr, IfOk, false, true};
-ghost use Rattle.x509_der.specs.declared.oid.Oid.{Oid as OidOf};
+ghost use Rattle.std.specs.Prelude.{◌≡◌, List, false, true};
 ghost use Rattle.x509_der.specs.Oid.{oid_bytes};
 ghost use Rattle.x509_der.specs.Primitives.{is_constructed};
 ghost use Rattle.x509_der.specs.Reading.{strict};
-ghost use Rattle.x509_fields.specs.declared.error.X509Error.TheVariants.{OutOfMemory};
-ghost use Rattle.x509_fields.specs.Groups.{held, pointed};
+ghost use Rattle.x509_fields.specs.Groups.{MapsGroups, held, pointed};
 ghost use Rattle.x509_values.specs.PolicyMapping.{PolicyMappingValue, policy_mapping_of, policy_mapping, policy_mapping_heads, policy_mapping_laws};
 ghost use Rattle.x509_values.specs.PolicyMapping.{policy_mappings_of, policy_mappings, policy_mappings_heads, policy_mappings_laws, subjects};
 
@@ -113,8 +111,7 @@ impl<'a> PolicyMappings<'a> {
         alloc: Global,
         hasher: S,
     ) -> Result<HashMap<Oid<'a>, Vec<&Oid<'a>>, S>, X509Error>
-        ensures groups { IfOk result (λ m. (issuer : OidOf) → pointed (held m issuer) ≡ subjects self.now.mappings issuer) }
-        ensures err { IfErr result (λ e. e ≡ OutOfMemory) }
+        ensures { MapsGroups (λ m q. pointed (held m q)) (subjects self.now.mappings) result }
     {
         let mut map = HashMap::with_hasher(alloc, hasher);
         for mapping in self.mappings.as_slice() {
@@ -139,8 +136,7 @@ impl<'a> PolicyMappings<'a> {
         alloc: Global,
         hasher: S,
     ) -> Result<HashMap<Oid<'a>, Vec<Oid<'a>>, S>, X509Error>
-        ensures groups { IfOk result (λ m. (issuer : OidOf) → held m issuer ≡ subjects self.entry.mappings issuer) }
-        ensures err { IfErr result (λ e. e ≡ OutOfMemory) }
+        ensures { MapsGroups (λ m q. held m q) (subjects self.entry.mappings) result }
     {
         let mut map = HashMap::with_hasher(alloc, hasher);
         for mapping in self.mappings.into_vec() {

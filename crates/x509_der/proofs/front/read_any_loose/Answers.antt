@@ -1,10 +1,17 @@
-use Rattle.std.proofs.Common.{arith, List, ℕ, subst}
+use Rattle.std.proofs.Common.{arith, rules, List, ℕ, subst}
 use Rattle.x509_der.specs.declared.look.Form.TheVariants.{Loose}
 use Rattle.x509_der.specs.Reading.{Gives, element_at, element_of}
+use Rattle.x509_der.specs.Leaves.{any_loose}
 use Rattle.x509_der.proofs.Readers.{element_exact}
 use Rattle.x509_der.proofs.front.read_any_loose.Goals as goal
 
-pub returns-clause-exact : goal.returns-clause-exact
-returns-clause-exact c =
-    element_exact (λ x. (x.0.now, element_of x.1)) c.element_and_rest.result Loose c.args.i.now (λ k. omega (arith, c.type_inv.i k))
-    (subst (λ (b : List ℕ). Gives (λ x. (x.0.now, element_of x.1)) c.element_and_rest.result (element_at Loose b)) c.look.ensures.bytes c.element_and_rest.ensures.reading)
+pub returns : goal.returns
+unfolding any_loose
+returns c =
+    let reading = subst (λ (b : List ℕ). Gives (λ x. (x.0.now, element_of x.1)) c.element_and_rest.result (element_at Loose b)) c.look.ensures.bytes c.element_and_rest.ensures.reading in
+    record {
+      exact = element_exact (λ x. (x.0.now, element_of x.1)) c.element_and_rest.result Loose c.args.i.now (λ k. omega (arith, c.type_inv.i k)) reading;
+      reading = search rules;
+      tries = search rules;
+      sizes = search rules;
+    }

@@ -1,17 +1,18 @@
-use Rattle.std.proofs.Common.{arith, List, ℕ, subst}
+use Rattle.std.proofs.Common.{arith, rules, List, ℕ, subst}
 use Rattle.x509_der.specs.declared.look.Form.TheVariants.{Strict}
-use Rattle.x509_der.specs.Leaves.{header}
+use Rattle.x509_der.specs.Laws.{IsBytes}
 use Rattle.x509_der.specs.Reading.{Gives, header_at}
-use Rattle.x509_der.proofs.Leaves.{header_local}
 use Rattle.x509_der.proofs.Readers.{header_exact}
-use Rattle.x509_der.proofs.Sentences.{gives_shorter}
+use Rattle.x509_der.proofs.Looks.{header_sizes}
 use Rattle.x509_der.proofs.front.read_header.Goals as goal
 
-pub returns-clause-reading : goal.returns-clause-reading
-returns-clause-reading c = subst (λ (b : List ℕ). Gives (λ x. (x.0.now, x.1)) c.header_in.result (header_at Strict b)) c.look.ensures.bytes c.header_in.ensures.reading
-
-pub returns-clause-exact : goal.returns-clause-exact
-returns-clause-exact c = header_exact (λ x. (x.0.now, x.1)) c.header_in.result Strict c.args.i.now (λ k. omega (arith, c.type_inv.i k)) (returns-clause-reading c)
-
-pub returns-clause-sizes : goal.returns-clause-sizes
-returns-clause-sizes c = gives_shorter (header Strict) (header_local Strict) (λ x. (x.0.now, x.1)) c.header_in.result c.args.i.now (λ k. omega (arith, c.type_inv.i k)) (returns-clause-reading c)
+pub returns : goal.returns
+returns c =
+    let fits : IsBytes c.args.i.now = λ k. omega (arith, c.type_inv.i k) in
+    let reading = subst (λ (b : List ℕ). Gives (λ x. (x.0.now, x.1)) c.header_in.result (header_at Strict b)) c.look.ensures.bytes c.header_in.ensures.reading in
+    record {
+      exact = header_exact (λ x. (x.0.now, x.1)) c.header_in.result Strict c.args.i.now fits reading;
+      reading = reading;
+      tries = search rules;
+      sizes = header_sizes (λ x. (x.0.now, x.1)) c.header_in.result Strict c.args.i.now fits reading;
+    }

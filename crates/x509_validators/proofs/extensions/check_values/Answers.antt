@@ -1,13 +1,13 @@
-use Rattle.std.proofs.Common.{arith}
+use Rattle.std.proofs.Common.{rules, arith}
 use Rattle.x509_extensions.specs.Extension.{extension_of}
 use Rattle.x509_validators.specs.Extensions.{extension_messages, is_sound_extension}
 use Rattle.x509_validators.proofs.Viewed.{Took-item, StoppedAt-item, list_all-item}
 use Rattle.x509_validators.proofs.extensions.check_values.Goals as goal
 
-pub returns-in_err-sound-clause-logs : goal.returns-in_err-sound-clause-logs
-returns-in_err-sound-clause-logs g c =
+pub returns-in_err-sound : goal.returns-in_err-sound
+returns-in_err-sound g c =
     let stopped = StoppedAt-item g.L.Logger.step extension_of extension_messages c.args.extensions.now c.loop-extension.extension-index c.extension-item.result c.extension-item.result c.args.logger.now c.loop-extension.logger _ c.check_extension.new.logger c.extension-item.is c.loop-extension-test.true c.loop-extension.invariant.took c.in_err-sound.ensures.logs in
-    grind (arith, stopped)
+    record { can = search rules; logs = grind (arith, stopped) }
 
 pub loop-extension-preserved : goal.loop-extension-preserved
 loop-extension-preserved g c = record {

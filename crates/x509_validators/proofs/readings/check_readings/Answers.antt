@@ -1,13 +1,13 @@
-use Rattle.std.proofs.Common.{arith}
+use Rattle.std.proofs.Common.{rules, arith}
 use Rattle.x509_extensions.specs.Extension.{extension_of}
 use Rattle.x509_validators.specs.Readings.{reading_messages, is_readable}
 use Rattle.x509_validators.proofs.Viewed.{Took-item, StoppedAt-item, list_all-item}
 use Rattle.x509_validators.proofs.readings.check_readings.Goals as goal
 
-pub returns-in_err-readable-clause-logs : goal.returns-in_err-readable-clause-logs
-returns-in_err-readable-clause-logs g c =
+pub returns-in_err-readable : goal.returns-in_err-readable
+returns-in_err-readable g c =
     let stopped = StoppedAt-item g.L.Logger.step extension_of reading_messages c.args.extensions.now c.loop-extension.extension-index c.extension-item.result c.extension-item.result c.args.logger.now c.loop-extension.logger _ c.check_reading.new.logger c.extension-item.is c.loop-extension-test.true c.loop-extension.invariant.took c.in_err-readable.ensures.logs in
-    grind (arith, stopped)
+    record { can = search rules; logs = grind (arith, stopped) }
 
 pub loop-extension-preserved : goal.loop-extension-preserved
 loop-extension-preserved g c = record {

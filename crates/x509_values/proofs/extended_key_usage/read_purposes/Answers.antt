@@ -1,4 +1,4 @@
-use Rattle.std.proofs.Common.{◌++◌, ◌∷◌, [], ap, sym, ◌∙◌, arith}
+use Rattle.std.proofs.Common.{◌++◌, ◌∷◌, [], ap, sym, ◌∙◌, arith, rules}
 use Rattle.std.proofs.lemmas.List.Sums.{sum_by_push}
 use Rattle.x509_der.specs.Plan.{got}
 use Rattle.x509_der.specs.Promises.{is_ber_memory}
@@ -26,16 +26,16 @@ loop-after-preserved c =
       least = λ under. omega (arith, sum, c.in-Ok.ensures.tries.least, c.in-Ok.ensures.tries.grows, c.loop-after.invariant.grows, c.loop-after.invariant.least);
     }
 
-pub returns-clause-reads : goal.returns-clause-reads
-returns-clause-reads c =
-    ap (λ t. got (usages_in t.1) t.0) (stops key_purpose c.loop-after.invariant.ids c.loop-after.rest.now c.in_default.field-0 _ (refused is_ber_memory c.in_default.field-0 _ c.in_default.ensures.reads) c.loop-after.invariant.run)
-    ∙ ap (λ u. got u c.loop-after.rest.now) (sym c.loop-after.invariant.says)
-
-pub returns-clause-marks : goal.returns-clause-marks
-returns-clause-marks c =
-    marks_stop key_purpose _ c.loop-after.rest.now c.in_default.field-0 _ (refused is_ber_memory c.in_default.field-0 _ c.in_default.ensures.reads) c.loop-after.invariant.marks
-
-pub returns-clause-least : goal.returns-clause-least
-returns-clause-least c = λ small.
-    let so_far = least c.loop-after.invariant.ids _ _ _ c.loop-after.invariant.says c.loop-after.invariant.least in
-    omega (arith, so_far, c.in_default.ensures.tries.grows)
+pub returns : goal.returns
+returns c =
+    let why = refused is_ber_memory c.in_default.field-0 _ c.in_default.ensures.reads in
+    record {
+      reads = ap (λ t. got (usages_in t.1) t.0) (stops key_purpose c.loop-after.invariant.ids c.loop-after.rest.now c.in_default.field-0 _ why c.loop-after.invariant.run)
+          ∙ ap (λ u. got u c.loop-after.rest.now) (sym c.loop-after.invariant.says);
+      marks = marks_stop key_purpose _ c.loop-after.rest.now c.in_default.field-0 _ why c.loop-after.invariant.marks;
+      grows = search rules;
+      count = search rules;
+      least = λ small.
+          let so_far = least c.loop-after.invariant.ids _ _ _ c.loop-after.invariant.says c.loop-after.invariant.least in
+          omega (arith, so_far, c.in_default.ensures.tries.grows);
+    }
