@@ -1,7 +1,7 @@
 -- Whether a certificate is valid when a clock is read, and for how long it will be.
 use Rattle.std.specs.Prelude.{◌≡◌, ◌↔◌, Option, IsSome, IfSome, ℤ, pos, neg_ℤ, ◌-ℤ◌, ◌*ℤ◌, ◌≤ℤ◌, ◌<ℤ◌}
 use Rattle.std.specs.Int.{int_div_euclid}
-use Rattle.jiff.specs.Words.{IsBetween}
+use Rattle.jiff_core.specs.Calendar.{IsBetween}
 use Rattle.x509_fields.specs.declared.time.asn1_time.ASN1Time.{ASN1Time}
 use Rattle.x509_fields.specs.Times.{instant_of, time_of}
 use Rattle.x509_times.specs.Moments.{unix_seconds}

@@ -1,14 +1,14 @@
 //! When a certificate is valid.
 
 ghost use Rattle.std.specs.Prelude.{◌≡◌, IsTrue, ◌↔◌, ℤ, false, option_map};
-ghost use Rattle.jiff.specs.Words.{signed_nanos};
+ghost use Rattle.jiff_duration.specs.SignedDuration.{signed_nanos};
 ghost use Rattle.x509_der.specs.Primitives.{is_constructed};
 ghost use Rattle.x509_der.specs.Reading.{strict};
 ghost use Rattle.x509_fields.specs.Times.{instant_of};
 ghost use Rattle.x509_certs.specs.Expiration.{IsValidAt, IsLeftAt, IsValidAtSecond, IsTimeLeft, days_left};
 ghost use Rattle.x509_certs.specs.Validity.{Period, period_of, period_heads, validity, validity_laws};
 
-use jiff::SignedDuration;
+use jiff_duration::SignedDuration;
 use std::alloc::Global;
 use x509_der::{Fields, FromDer, Outside, Place, Refused, Tries, ok};
 use x509_fields::{ASN1Time, Clock, X509Error, sequence_at};

@@ -1,6 +1,7 @@
 -- Sums and differences of times, and the times of clocks.
 use Rattle.std.specs.Prelude.{◌≡◌, ◌↔◌, Option, Some, None, IsSome, IfSome, if◌then◌else◌, int_lt, Result, IsOk, IfOk, IfErr, ℤ, pos, neg_ℤ, ◌+ℤ◌, ◌-ℤ◌, ◌*ℤ◌}
-use Rattle.jiff.specs.Words.{IsBetween, civil_nanos}
+use Rattle.jiff_core.specs.Calendar.{IsBetween}
+use Rattle.jiff_core.specs.DateTime.{civil_nanos}
 use Rattle.x509_times.specs.Moments.{IsCivil}
 use Rattle.x509_fields.specs.declared.error.X509Error.{X509Error}
 use Rattle.x509_fields.specs.declared.error.X509Error.TheVariants as x509

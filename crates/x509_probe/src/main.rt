@@ -10,6 +10,7 @@ mod anything;
 mod change;
 mod check;
 mod lines;
+mod promises;
 mod rows;
 mod work;
 

@@ -3,8 +3,9 @@ use Rattle.std.proofs.Common.{◌≡◌, ℕ, ◌<◌, ◌≤◌, Bool, true, fa
 use Rattle.x509_times.specs.OffsetDateTimes.{moment_of}
 use Rattle.x509_times.specs.declared.offset_date_time.OffsetDateTime.{OffsetDateTime}
 use Rattle.std.proofs.lemmas.Bool.Decides.{nat_tests}
-use Rattle.jiff.proofs.SpanFacts.{signed_arith}
-use Rattle.jiff.specs.Words.{IsDate, IsTime, IsYear, days_in_month}
+use Rattle.jiff_core.proofs.SignedLemmas.{signed_arith}
+use Rattle.jiff_core.specs.Calendar.{IsDate, IsYear, days_in_month}
+use Rattle.jiff_core.specs.Time.{IsTime}
 use Rattle.x509_times.specs.Moments.{Moment, is_real}
 use Rattle.x509_times.specs.Octets.{if_real}
 

@@ -8,8 +8,8 @@ use Rattle.std.proofs.lemmas.Option.{option_and_then_some, cond_some, same_Some}
 use Rattle.std.proofs.lemmas.Slice.Eq.{bytes_eq-Decides}
 use Rattle.std.specs.Prelude.{unsigned_abs}
 use Rattle.std.specs.Int.{is_negative}
-use Rattle.jiff.proofs.SpanFacts.{signed_arith}
-use Rattle.jiff.specs.Words.{days_in_month}
+use Rattle.jiff_core.proofs.SignedLemmas.{signed_arith}
+use Rattle.jiff_core.specs.Calendar.{days_in_month}
 use Rattle.x509_times.specs.Moments.{Moment, IsOffset, is_real}
 use Rattle.x509_times.proofs.RealDates.{is_real-tests, mapped_of}
 use Rattle.x509_times.specs.Octets.{pair, optional_pair, zone, if_real, year_of_pair, utc_moment, generalized_moment, signed_minutes}

@@ -1,6 +1,6 @@
 -- What contracts see of a date-time with an offset.
 use Rattle.std.specs.Prelude.{ℤ}
-use Rattle.jiff.specs.Types.{DateTime}
+use Rattle.jiff_core.specs.declared.civil.datetime.DateTime.{DateTime}
 use Rattle.x509_times.specs.declared.offset_date_time.OffsetDateTime.{OffsetDateTime}
 use Rattle.x509_times.specs.Moments.{Moment, moment_at}
 

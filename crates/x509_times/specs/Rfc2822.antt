@@ -1,7 +1,7 @@
 -- A time as internet messages write it (RFC 2822, section 3.3).
 use Rattle.std.specs.Prelude.{ℕ, List, ◌++◌, codes, if◌then◌else◌, Option, Some, None, pos, unsigned_abs, int_lt}
 use Rattle.std.specs.Fmt.{decimal}
-use Rattle.jiff.specs.Words.{weekday_of}
+use Rattle.jiff_core.specs.Date.{weekday_of}
 use Rattle.x509_times.specs.TimeText.{day_name, month_name, year_text, clock_text, zone_text}
 use Rattle.x509_times.specs.OffsetDateTimes.{civil_of, moment_of}
 use Rattle.x509_times.specs.declared.offset_date_time.OffsetDateTime.{OffsetDateTime}

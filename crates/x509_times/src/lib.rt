@@ -1,5 +1,5 @@
 //! Civil date-times with an offset from UTC, as UTCTime and GeneralizedTime spell them (X.680, sections 47 and 46; RFC 5280,
-//! section 4.1.2.5): what their octets say, their instants and their text. It stands on jiff alone.
+//! section 4.1.2.5): what their octets say, their instants and their text. It stands on the core of jiff alone.
 #![tactic(auto)]
 
 mod laws;

@@ -1,11 +1,13 @@
 //! Civil date-times with an offset from UTC.
 
 ghost use Rattle.std.specs.Prelude.{◌≡◌, ◌↔◌, pos, neg_ℤ, ◌+ℤ◌, ◌-ℤ◌, IsSome, IfSome};
-ghost use Rattle.jiff.specs.Words.{IsBetween, civil_nanos, signed_nanos};
+ghost use Rattle.jiff_core.specs.Calendar.{IsBetween};
+ghost use Rattle.jiff_core.specs.DateTime.{civil_nanos};
+ghost use Rattle.jiff_duration.specs.SignedDuration.{signed_nanos};
 ghost use Rattle.x509_times.specs.Moments.{IsOffset, IsCivil, instant, floor_seconds, unix_seconds};
 
-use jiff::SignedDuration;
-use jiff::civil::DateTime;
+use jiff_core::civil::DateTime;
+use jiff_duration::SignedDuration;
 
 const NANOS_PER_MINUTE: i128 = 60_000_000_000;
 
@@ -20,7 +22,8 @@ pub struct OffsetDateTime {
 impl OffsetDateTime {
     ghost use Rattle.x509_times.specs.OffsetDateTimes.{civil_of, offset_of, moment_of};
 
-    /// The date-time of a clock that is that many minutes ahead of UTC; None where that is a day or more, either way.
+    /// The date-time of a clock that is that many minutes ahead of UTC; None where that is a day or more, either way. `to_plain` of jiff's own
+    /// date-time gives the civil one.
     pub fn new(civil: DateTime, offset_minutes: i16) -> Option<OffsetDateTime>
         ensures some { IsSome result ↔ IsOffset offset_minutes }
         ensures value { IfSome result (λ t. (civil_of t ≡ civil) × (offset_of t ≡ offset_minutes)) }
@@ -43,7 +46,7 @@ impl OffsetDateTime {
         }
     }
 
-    /// The date and time of day that the clock shows.
+    /// The date and time of day that the clock shows, of which `jiff::civil::DateTime::from_plain` makes jiff's own.
     pub fn civil(&self) -> DateTime
         ensures { result ≡ civil_of self.now }
     {
@@ -62,16 +65,14 @@ impl OffsetDateTime {
     pub fn year(&self) -> i16
         ensures { result ≡ (moment_of self.now).year }
     {
-        let date = self.civil.date();
-        date.year()
+        self.civil.date.year
     }
 
     /// The nanoseconds since 1970-01-01T00:00:00Z.
     pub fn instant_nanos(&self) -> i128
         ensures { result ≡ instant (civil_of self.now) (offset_of self.now) }
     {
-        let civil = self.civil.to_plain();
-        civil.to_nanosecond() - i128::from(self.offset_minutes) * NANOS_PER_MINUTE
+        self.civil.to_nanosecond() - i128::from(self.offset_minutes) * NANOS_PER_MINUTE
     }
 
     /// The whole seconds since 1970-01-01T00:00:00Z, rounded down: at least those of -9999-01-01T00:00:00+23:59, and at most those of
@@ -81,8 +82,7 @@ impl OffsetDateTime {
         ensures unix { result ≡ unix_seconds (moment_of self.now) }
         ensures range { IsBetween (neg_ℤ (pos 377_705_203_140)) (pos 253_402_387_139) result }
     {
-        let civil = self.civil.to_plain();
-        civil.to_second() - i64::from(self.offset_minutes) * 60
+        self.civil.to_second() - i64::from(self.offset_minutes) * 60
     }
 
     /// The date-time of the same offset that is so much later, or earlier for a duration below zero; None where its civil
@@ -93,9 +93,8 @@ impl OffsetDateTime {
             ≡ instant (civil_of self.now) (offset_of self.now) +ℤ signed_nanos duration) }
         ensures offset { IfSome result (λ t. offset_of t ≡ offset_of self.now) }
     {
-        let civil = self.civil.to_plain();
-        match civil.checked_add_nanos(duration.as_nanos()) {
-            Ok(sum) => Some(OffsetDateTime::at(DateTime::from_plain(sum), self.offset_minutes)),
+        match self.civil.checked_add_nanos(duration.as_nanos()) {
+            Ok(sum) => Some(OffsetDateTime::at(sum, self.offset_minutes)),
             Err(_) => None,
         }
     }

@@ -7,7 +7,7 @@ ghost use Rattle.x509_times.specs.Spelling.{SpellsUtc, SpellsGeneralized};
 ghost use Rattle.x509_times.specs.OffsetDateTimes.{moment_of};
 
 use crate::offset_date_time::OffsetDateTime;
-use jiff::civil::{Date, DateTime, Time};
+use jiff_core::civil::{Date, DateTime, Time};
 
 // A number of two decimal digits, and the octets behind it.
 #[inline(always)]
@@ -90,7 +90,7 @@ fn real_moment(
         Err(_) => return None,
     };
     match Time::new(hour as i8, minute as i8, second as i8, 0) {
-        Ok(time) => Some(OffsetDateTime::at(DateTime::from_parts(date, time), offset)),
+        Ok(time) => Some(OffsetDateTime::at(DateTime { date, time }, offset)),
         Err(_) => None,
     }
 }

@@ -154,7 +154,7 @@ impl fmt::Display for OffsetDateTime {
 
     fn fmt<W: fmt::Write>(&self, f: &mut fmt::Formatter<W>) -> fmt::Result {
         let minutes = self.offset_minutes();
-        let civil = self.civil().to_plain();
+        let civil = self.civil();
         let month = name_of_month(civil.date.month);
         let day = InTwoPlaces {
             number: civil.date.day,

@@ -1,11 +1,11 @@
 //! Sums and differences of times.
 
 ghost use Rattle.std.specs.Prelude.{◌≡◌, option_map};
-ghost use Rattle.jiff.specs.Words.{signed_nanos};
+ghost use Rattle.jiff_duration.specs.SignedDuration.{signed_nanos};
 ghost use Rattle.x509_fields.specs.TimeArithmetic.{IsLater, since};
 
 use super::asn1_time::ASN1Time;
-use jiff::SignedDuration;
+use jiff_duration::SignedDuration;
 use std::ops::{Add, Sub};
 
 /// The time that is so much later, or earlier for a duration below zero: with the same offset, and in the form of its year. None

@@ -109,7 +109,7 @@ fn look_ups(rt: HostRuntime) -> Result<(), Fail> {
         (b"\x2C", twice),
     ] {
         let looked_up = get_extension_unique(extensions, &Oid::new(octets));
-        assert_eq!(rt; looked_up.map(|e| e.is_some()), found);
+        assert!(rt; looked_up.map(|e| e.is_some()) == found);
     }
     let read = parse_x509_certificate(rt.alloc(), EXTENDED_BYTES);
     let certificate = whole(rt.alloc(), read)?;

@@ -17,9 +17,9 @@ fn any(bytes: &[u8]) -> Result<Any<'_>, Err<BerError>> {
 fn rsa_keys(rt: HostRuntime) -> Result<(), Fail> {
     let bytes: &[u8] = b"\x30\x08\x02\x03\x00\xC5\x01\x02\x01\x03";
     let key = whole(rt.alloc(), RSAPublicKey::from_der(rt.alloc(), bytes))?;
-    assert_eq!(rt; key.modulus, b"\x00\xC5\x01".as_slice());
-    assert_eq!(rt; key.try_exponent(), Ok(3));
-    assert_eq!(rt; key.key_size(), 16);
+    assert!(rt; key.modulus == b"\x00\xC5\x01".as_slice());
+    assert!(rt; key.try_exponent() == Ok(3));
+    assert!(rt; key.key_size() == 16);
     // exponents, and what they are as numbers
     for (exponent, number) in [
         (b"\x01\x00\x01".as_slice(), Ok(65_537)),
@@ -28,19 +28,19 @@ fn rsa_keys(rt: HostRuntime) -> Result<(), Fail> {
     ] {
         let modulus: &[u8] = b"\x05";
         let found = RSAPublicKey { modulus, exponent }.try_exponent();
-        assert_eq!(rt; found, number);
+        assert!(rt; found == number);
     }
     // moduli without a size
     for modulus in [b"\x80".as_slice(), b""] {
         let exponent: &[u8] = b"\x03";
         let size = RSAPublicKey { modulus, exponent }.key_size();
-        assert_eq!(rt; size, 0);
+        assert!(rt; size == 0);
     }
     // a point: 04 and two coordinates
     let mut bytes = [0x11; 65];
     bytes[0] = 0x04;
     let size = ECPoint::from(bytes.as_slice()).key_size();
-    assert_eq!(rt; size, 256);
+    assert!(rt; size == 256);
     Ok(())
 }
 
@@ -58,16 +58,16 @@ const NO_PARAMETERS: [(&[u8], BerError); 3] = [
 fn pss_parameters(rt: HostRuntime) -> Result<(), Fail> {
     for (bytes, salt) in PARAMETERS {
         let found = kept(rt.alloc(), RsaSsaPssParams::try_from(any(bytes)?)?)?;
-        assert_eq!(rt; found.salt_length(), salt);
-        assert_eq!(rt; found.trailer_field(), 1);
-        assert_eq!(rt; found.hash_algorithm_oid().as_bytes(), OID_HASH_SHA1);
+        assert!(rt; found.salt_length() == salt);
+        assert!(rt; found.trailer_field() == 1);
+        assert!(rt; found.hash_algorithm_oid().as_bytes() == OID_HASH_SHA1);
         let mask = kept(rt.alloc(), found.mask_gen_algorithm()?)?;
-        assert_eq!(rt; mask.mgf, Oid::new(b"\x2A\x86\x48\x86\xF7\x0D\x01\x01\x08"));
-        assert_eq!(rt; mask.hash.as_bytes(), OID_HASH_SHA1);
+        assert!(rt; mask.mgf == Oid::new(b"\x2A\x86\x48\x86\xF7\x0D\x01\x01\x08"));
+        assert!(rt; mask.hash.as_bytes() == OID_HASH_SHA1);
     }
     for (bytes, error) in NO_PARAMETERS {
         let read = RsaSsaPssParams::try_from(any(bytes)?);
-        assert_eq!(rt; read.err(), Some(X509Error::Der(error)), "at {bytes:?}");
+        assert!(rt; read.err() == Some(X509Error::Der(error)), "at {bytes:?}");
     }
     Ok(())
 }
@@ -88,9 +88,9 @@ fn kind(alloc: Global, octets: &[u8], parameters: Option<Any<'_>>) -> &'static s
 fn kinds_of_signatures(rt: HostRuntime) -> Result<(), Fail> {
     let oaep = b"\x2A\x86\x48\x86\xF7\x0D\x01\x01\x07";
     let none = Some(any(b"\x30\x00")?);
-    assert_eq!(rt; kind(rt.alloc(), oaep, none), "RSAES-OAEP");
-    assert_eq!(rt; kind(rt.alloc(), oaep, None), "invalid");
-    assert_eq!(rt; kind(rt.alloc(), OID_PKCS1_SHA256WITHRSA, None), "RSA");
-    assert_eq!(rt; kind(rt.alloc(), b"\x2A\x03", None), "invalid");
+    assert!(rt; kind(rt.alloc(), oaep, none) == "RSAES-OAEP");
+    assert!(rt; kind(rt.alloc(), oaep, None) == "invalid");
+    assert!(rt; kind(rt.alloc(), OID_PKCS1_SHA256WITHRSA, None) == "RSA");
+    assert!(rt; kind(rt.alloc(), b"\x2A\x03", None) == "invalid");
     Ok(())
 }

@@ -22,11 +22,11 @@ fn nothing_revoked(rt: HostRuntime) -> Result<(), Fail> {
         whole(rt.alloc(), parse_x509_crl_strict(rt.alloc(), bytes))?,
     ] {
         assert!(rt; list.version().is_none() && list.next_update().is_none());
-        assert_eq!(rt; list.last_update().timestamp(), 0);
+        assert!(rt; list.last_update().timestamp() == 0);
         assert!(rt; list.iter_revoked_certificates().next().is_none());
         assert!(rt; list.extensions().is_empty());
-        assert_eq!(rt; list.as_raw(), bytes);
-        assert_eq!(rt; list.tbs_cert_list.as_ref(), &bytes[2..26]);
+        assert!(rt; list.as_raw() == bytes);
+        assert!(rt; list.tbs_cert_list.as_ref() == &bytes[2..26]);
     }
     Ok(())
 }
@@ -38,11 +38,11 @@ fn one_revoked(rt: HostRuntime) -> Result<(), Fail> {
     let mut revoked = list.iter_revoked_certificates();
     let entry = revoked.next().ok_or("no entry")?;
     assert!(rt; entry.serial().is_u32(42));
-    assert_eq!(rt; entry.revocation_date.timestamp(), 0);
+    assert!(rt; entry.revocation_date.timestamp() == 0);
     assert!(rt; revoked.next().is_none());
     let tbs = &list.tbs_cert_list;
-    assert_eq!(rt; tbs.find_revoked(&UnsignedBytes::new(&[42])), Some(0));
-    assert_eq!(rt; tbs.find_revoked(&UnsignedBytes::new(&[41])), None);
+    assert!(rt; tbs.find_revoked(&UnsignedBytes::new(&[42])) == Some(0));
+    assert!(rt; tbs.find_revoked(&UnsignedBytes::new(&[41])) == None);
     Ok(())
 }
 
@@ -56,6 +56,6 @@ fn no_lists(rt: HostRuntime) {
         (b"", Err::Incomplete),
     ] {
         let read = parse_x509_crl(rt.alloc(), bytes);
-        assert_eq!(rt; read.err(), Some(refusal), "at {bytes:?}");
+        assert!(rt; read.err() == Some(refusal), "at {bytes:?}");
     }
 }

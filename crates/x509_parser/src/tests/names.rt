@@ -31,7 +31,7 @@ fn names_as_text(rt: HostRuntime) -> Result<(), Fail> {
     for (bytes, text, window) in NAMES {
         let name = whole(rt.alloc(), X509Name::from_der(rt.alloc(), bytes))?;
         assert!(rt; bytes.starts_with(name.as_raw()));
-        assert_eq!(rt; name.as_raw().len(), window);
+        assert!(rt; name.as_raw().len() == window);
         assert!(rt; is_shown(rt.alloc(), name, text)?, "at {text}");
     }
     Ok(())
@@ -97,16 +97,16 @@ fn identifiers_as_text(rt: HostRuntime) -> Result<(), Fail> {
 fn words_of_identifiers(rt: HostRuntime) -> Result<(), Fail> {
     let registry = kept(rt.alloc(), oid_registry(rt.alloc())?)?;
     let common = Oid::new(b"\x55\x04\x03");
-    assert_eq!(rt; oid2sn(&common, registry), Ok("commonName"));
-    assert_eq!(rt; oid2abbrev(&common, registry), Ok("CN"));
+    assert!(rt; oid2sn(&common, registry) == Ok("commonName"));
+    assert!(rt; oid2abbrev(&common, registry) == Ok("CN"));
     let usage = Oid::new(b"\x55\x1D\x0F");
-    assert_eq!(rt; oid2abbrev(&usage, registry), Ok("keyUsage"));
+    assert!(rt; oid2abbrev(&usage, registry) == Ok("keyUsage"));
     let mask = Oid::new(b"\x2A\x86\x48\x86\xF7\x0D\x01\x01\x08");
-    assert_eq!(rt; oid2sn(&mask, registry), Ok("id-mgf1"));
+    assert!(rt; oid2sn(&mask, registry) == Ok("id-mgf1"));
     let words = oid2description(&mask, registry);
-    assert_eq!(rt; words, Ok("Mask Generator Function 1 (MGF1)"));
+    assert!(rt; words == Ok("Mask Generator Function 1 (MGF1)"));
     let unknown = Oid::new(b"\x2A\x03");
-    assert_eq!(rt; oid2abbrev(&unknown, registry), Err(NidError));
+    assert!(rt; oid2abbrev(&unknown, registry) == Err(NidError));
     Ok(())
 }
 
@@ -122,6 +122,6 @@ fn fields(rt: HostRuntime) -> Result<(), Fail> {
     }
     let serial = format_serial(rt.alloc(), b"\x01\x02\x03\x04\xFF")?;
     let serial = kept(rt.alloc(), serial)?;
-    assert_eq!(rt; serial.as_str(), "01:02:03:04:ff");
+    assert!(rt; serial.as_str() == "01:02:03:04:ff");
     Ok(())
 }

@@ -46,7 +46,7 @@ fn time_of(alloc: Global, bytes: &[u8]) -> Result<ASN1Time, Fail> {
 #[test]
 fn times(rt: HostRuntime) -> Result<(), Fail> {
     for (bytes, seconds) in TIMES {
-        assert_eq!(rt; time_of(rt.alloc(), bytes)?.timestamp(), seconds);
+        assert!(rt; time_of(rt.alloc(), bytes)?.timestamp() == seconds);
     }
     for (bytes, text) in TEXTS {
         let time = time_of(rt.alloc(), bytes)?;
@@ -54,7 +54,7 @@ fn times(rt: HostRuntime) -> Result<(), Fail> {
     }
     let first = time_of(rt.alloc(), b"\x17\x0D700101000000Z")?;
     let message = kept(rt.alloc(), first.to_rfc2822(rt.alloc())?)?;
-    assert_eq!(rt; message.as_str(), "Thu, 1 Jan 1970 00:00:00 +0000");
+    assert!(rt; message.as_str() == "Thu, 1 Jan 1970 00:00:00 +0000");
     Ok(())
 }
 
@@ -69,8 +69,8 @@ const NO_TIMES: [&[u8]; 4] = [
 fn no_times(rt: HostRuntime) {
     for bytes in NO_TIMES {
         let read = ASN1Time::from_der(rt.alloc(), bytes);
-        let refused = matches!(read, Err(Err::Error(X509Error::InvalidDate)));
-        assert!(rt; refused, "at {bytes:?}");
+        let refusal = Some(Err::Error(X509Error::InvalidDate));
+        assert!(rt; read.err() == refusal, "at {bytes:?}");
     }
 }
 
@@ -107,9 +107,9 @@ fn validity(rt: HostRuntime) -> Result<(), Fail> {
     let validity = validity_of(rt.alloc(), bytes)?;
     for (seconds, valid, left) in MOMENTS {
         let mut clock = Stopped(seconds);
-        assert_eq!(rt; validity.is_valid(&mut clock), valid);
+        assert!(rt; validity.is_valid(&mut clock) == valid);
         let found = validity.time_to_expiration(&mut clock);
-        assert_eq!(rt; found.map(|left| left.as_secs()), left);
+        assert!(rt; found.map(|left| left.as_secs()) == left);
     }
     // both ends, as a GeneralizedTime
     for bytes in [b"\x18\x0F19700101000000Z", b"\x18\x0F20491231235959Z"] {

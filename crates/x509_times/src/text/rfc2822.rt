@@ -1,14 +1,14 @@
 //! A time as internet messages write it (RFC 2822, section 3.3).
 
 ghost use Rattle.std.specs.Prelude.{◌≡◌, ◌<◌, ◌≤ℤ◌, Some, pos, option_map};
-ghost use Rattle.jiff.specs.Words.{monday_zero};
+ghost use Rattle.jiff_core.specs.Weekday.{monday_zero};
 ghost use Rattle.x509_times.specs.Moments.{IsOffset};
 ghost use Rattle.x509_times.specs.OffsetDateTimes.{moment_of};
 ghost use Rattle.x509_times.specs.TimeText.{day_name, zone_text};
 
 use super::{TimeOfDay, TwoDigits, Year, name_of_month};
 use crate::offset_date_time::OffsetDateTime;
-use jiff::civil::Weekday;
+use jiff_core::civil::Weekday;
 use std::fmt;
 
 #[tactic(auto, unfolding(crate::specs::TimeText::day_name))]
@@ -80,9 +80,8 @@ impl fmt::Display for Rfc2822 {
 
     fn fmt<W: fmt::Write>(&self, f: &mut fmt::Formatter<W>) -> fmt::Result {
         let minutes = self.time.offset_minutes();
-        let time = self.time.civil();
-        let weekday = name_of_day(time.weekday());
-        let civil = time.to_plain();
+        let civil = self.time.civil();
+        let weekday = name_of_day(civil.date.weekday());
         let day = civil.date.day;
         let month = name_of_month(civil.date.month);
         let year = Year {

@@ -113,7 +113,7 @@ impl fmt::Display for Rfc3339 {
 
     fn fmt<W: fmt::Write>(&self, f: &mut fmt::Formatter<W>) -> fmt::Result {
         let minutes = self.time.offset_minutes();
-        let civil = self.time.civil().to_plain();
+        let civil = self.time.civil();
         let year = Year {
             number: civil.date.year.unsigned_abs(),
         };

@@ -1,7 +1,9 @@
 use Rattle.std.proofs.Common.{ℕ, ℤ, pos, refl, ap, ◌∙◌, w8, w16, arith}
 use Rattle.std.proofs.lemmas.Int.{to_z_pos, to_z-of_z}
-use Rattle.jiff.proofs.SpanFacts.{signed_arith}
-use Rattle.jiff.specs.Types.{Date, DateTime, Time}
+use Rattle.jiff_core.proofs.SignedLemmas.{signed_arith}
+use Rattle.jiff_core.specs.declared.civil.date.Date.{Date}
+use Rattle.jiff_core.specs.declared.civil.datetime.DateTime.{DateTime}
+use Rattle.jiff_core.specs.declared.civil.time.Time.{Time}
 use Rattle.x509_times.specs.Moments.{Moment}
 use Rattle.x509_times.proofs.RealDates.{is_real-yes, is_real-only, ok_moment, no_moment}
 use Rattle.x509_times.proofs.spelling.real_moment.Goals as goal
@@ -24,8 +26,8 @@ returns-in-Ok-new c =
     let date = c.in-Ok.ensures.value in
     let time = c.in-Ok-new.ensures.value in
     let e = c.at.ensures.civil in
-    let on = ap (λ (x : DateTime). x.date) e ∙ c.from_parts.ensures.date in
-    let at = ap (λ (x : DateTime). x.time) e ∙ c.from_parts.ensures.time in
+    let on = ap (λ (x : DateTime). x.date) e in
+    let at = ap (λ (x : DateTime). x.time) e in
     ok_moment c.at.result m (ap (λ (x : Date). x.year) on ∙ (date.0 ∙ y)) (ap (λ (x : Date). pos x.month) on ∙ (date.1 ∙ mo)) (ap (λ (x : Date). pos x.day) on ∙ (date.2 ∙ d))
     (ap (λ (x : Time). pos x.hour) at ∙ (time.0 ∙ h)) (ap (λ (x : Time). pos x.minute) at ∙ (time.1 ∙ n)) (ap (λ (x : Time). pos x.second) at ∙ (time.2 ∙ s)) (ap (λ (x : Time). pos x.subsec_nanosecond) at ∙ time.3)
     (c.at.ensures.offset ∙ to_z-of_z w16 c.args.offset c.ranges.offset) (is_real-yes m is_date.0 is_date is_time)

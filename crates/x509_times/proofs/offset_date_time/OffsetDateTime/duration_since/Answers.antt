@@ -1,5 +1,5 @@
 use Rattle.std.proofs.Common.{arith}
-use Rattle.jiff.proofs.SpanFacts.{signed_arith}
+use Rattle.jiff_core.proofs.SignedLemmas.{signed_arith}
 use Rattle.x509_times.proofs.Instants.{instant_range}
 use Rattle.x509_times.proofs.offset_date_time.OffsetDateTime.duration_since.Goals as goal
 

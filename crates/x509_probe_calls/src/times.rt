@@ -2,7 +2,7 @@
 
 use crate::orders::put_order;
 use crate::registries::put_text;
-use jiff::SignedDuration;
+use jiff_duration::SignedDuration;
 use x509_certs::Validity;
 use x509_der::FromDer;
 use x509_fields::{ASN1Time, Clock};
