@@ -4,8 +4,8 @@ use Rattle.x509_leniencies.specs.Uses.{Use, leniencies}
 use Rattle.x509_leniencies.specs.declared.leniency.Leniency.{Leniency}
 use Rattle.x509_leniencies.specs.declared.leniency.Leniency.TheVariants.{BytesBehind, WrapperByNumber, AnySerial, BasicTruth, UnreadableField, AttributeByNumbers, ChoiceByNumber, UnreadableName, TimestampsBehind, Inside}
 use Rattle.x509_paths.specs.declared.part.Part.{Part}
-use Rattle.x509_refused_values.specs.declared.refused_value.RefusedValue.{RefusedValue}
-use Rattle.x509_refused_values.specs.RefusedValues.{refused_values}
+use Rattle.x509_dump.specs.declared.refused.refused_value.RefusedValue.{RefusedValue}
+use Rattle.x509_dump.specs.RefusedValues.{refused_values}
 use Rattle.x509_c.specs.Rows.{AreTold}
 use Rattle.x509_c.specs.Status.{status_of}
 use Rattle.x509_c.specs.declared.findings.LenientUseRow.{LenientUseRow}

@@ -13,8 +13,8 @@ use crate::row_writer::{HasRow, put_rows};
 use crate::status::{NOT_FOUND, OK, OUT_OF_MEMORY, status_of};
 use crate::text::put_text;
 use std::alloc::Global;
+use x509_dump::{RefusedValue, refused_values};
 use x509_leniencies::{Leniency, LenientUse, leniencies};
-use x509_refused_values::{RefusedValue, refused_values};
 
 /// A lenient rule that an object uses: `rtv_lenient_use` of rushtrivet.h.
 #[repr(C)]

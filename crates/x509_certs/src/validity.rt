@@ -83,6 +83,23 @@ impl Validity {
     }
 }
 
+/// The validity at a place, and whether it stands plainly; a refusal ends the function. For the reader of signed parts, in which it stands in place.
+macro_rules! validity_at {
+    ($alloc:ident, $tries:ident, $place:expr) => {{
+        let contents = sequence_at($place)?;
+        let fields = Fields::of($tries, &contents);
+        let (fields, not_before) = ok!(fields.field($alloc, $tries));
+        let (not_after, plain) = ok!(fields.last($alloc, $tries));
+        let validity = Validity {
+            not_before,
+            not_after,
+        };
+        (validity, plain)
+    }};
+}
+
+pub(crate) use validity_at;
+
 /// A time that can't be read is `InvalidDate`; the SEQUENCE has its own refusals.
 impl<'a> FromDer<'a, X509Error> for Validity {
     ghost Value = { Period };
@@ -110,15 +127,7 @@ impl<'a> FromDer<'a, X509Error> for Validity {
         tries: &mut Tries,
         place: &Place<'a, L>,
     ) -> Result<(Self, bool), Refused<X509Error, L>> {
-        let contents = sequence_at(place)?;
-        let fields = Fields::of(tries, &contents);
-        let (fields, not_before) = ok!(fields.field(alloc, tries));
-        let (not_after, plain) = ok!(fields.last(alloc, tries));
-        let validity = Validity {
-            not_before,
-            not_after,
-        };
-        Ok((validity, plain))
+        Ok(validity_at!(alloc, tries, place))
     }
 
     ghost never_memory = { validity_laws.laws.never_memory };

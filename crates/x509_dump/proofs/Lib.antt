@@ -4,3 +4,6 @@ pub mod Shown
 pub mod Walking
 pub mod Plain
 pub mod Markup
+pub mod Within
+pub mod Refusals
+pub mod Leftover

@@ -8,3 +8,7 @@ pub mod PageReports
 pub mod PageElements
 pub mod PageOctets
 pub mod PageMarkup
+pub mod Values
+pub mod Readings
+pub mod RefusedValues
+pub mod Findings

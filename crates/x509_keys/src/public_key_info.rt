@@ -12,8 +12,8 @@ use crate::key_algorithm::{KeyAlgorithm, NamedCurve};
 use crate::key_kind::KeyKind;
 use crate::public_key::{PublicKey, parse_key, read_key};
 use std::alloc::Global;
-use x509_der::{Any, BitString, Class, Fields, FromDer, Outside, Place, Refused, Tries, named};
-use x509_fields::{AlgorithmIdentifier, X509Error, sequence_at};
+use x509_der::{Any, BitString, Class, FromDer, Outside, Place, Refused, Tries};
+use x509_fields::{AlgorithmIdentifier, X509Error};
 
 /// A public key and its algorithm (RFC 5280, section 4.1.2.7).
 ///
@@ -113,6 +113,27 @@ fn is_identifier(any: &Any<'_>) -> bool
     matches!(header.class, Class::Universal) && !header.constructed && header.tag.0 == 6
 }
 
+/// The key info at a place, and whether it stands plainly; a refusal ends the function. For the reader of certificates, in which it stands in place.
+#[macro_export]
+macro_rules! key_info_at {
+    ($alloc:ident, $tries:ident, $place:expr) => {{
+        let place = $place;
+        let contents = x509_fields::sequence_at(place)?;
+        let fields = x509_der::Fields::of($tries, &contents);
+        let (fields, algorithm) = x509_der::ok!(fields.field($alloc, $tries));
+        let bits = fields.place.bits();
+        let subject_public_key = x509_der::named!(bits, x509_fields::X509Error::InvalidSPKI);
+        let bytes = place.bytes();
+        let behind = fields.place.rest().len() + place.rest().len();
+        let info = $crate::SubjectPublicKeyInfo {
+            algorithm,
+            subject_public_key,
+            raw: &bytes[..bytes.len() - behind],
+        };
+        (info, fields.ends_here())
+    }};
+}
+
 /// A key that cannot be read is `InvalidSPKI`; the SEQUENCE and the algorithm have their own refusals.
 impl<'a> FromDer<'a, X509Error> for SubjectPublicKeyInfo<'a> {
     ghost Value = { KeyInfo };
@@ -140,19 +161,7 @@ impl<'a> FromDer<'a, X509Error> for SubjectPublicKeyInfo<'a> {
         tries: &mut Tries,
         place: &Place<'a, L>,
     ) -> Result<(Self, bool), Refused<X509Error, L>> {
-        let contents = sequence_at(place)?;
-        let fields = Fields::of(tries, &contents);
-        let (fields, algorithm) = fields.field(alloc, tries)?;
-        let subject_public_key = named!(fields.place.bits(), X509Error::InvalidSPKI);
-        let tail = fields.place.rest();
-        let bytes = place.bytes();
-        let raw = &bytes[..bytes.len() - (tail.len() + place.rest().len())];
-        let info = SubjectPublicKeyInfo {
-            algorithm,
-            subject_public_key,
-            raw,
-        };
-        Ok((info, fields.ends_here()))
+        Ok(key_info_at!(alloc, tries, place))
     }
 
     ghost never_memory = { key_info_laws.laws.never_memory };

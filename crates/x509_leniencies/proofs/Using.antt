@@ -1,7 +1,6 @@
 -- One member after another, of one element inside another.
-use Rattle.std.proofs.Common.{◌≡◌, ℕ, suc, zero, ◌+◌, ◌<◌, ◌≤◌, ◌==◌, Bool, true, false, drop, if◌then◌else◌, List, [], ◌∷◌, ◌++◌, length, Option, Some, None, sym, ap, ◌∙◌, refl, arith, append_assoc, append-nil}
+use Rattle.std.proofs.Common.{◌≡◌, ℕ, suc, zero, ◌+◌, ◌<◌, ◌≤◌, ◌==◌, Bool, true, false, if◌then◌else◌, List, [], ◌∷◌, ◌++◌, length, Option, Some, None, sym, ap, ◌∙◌, refl, arith, append_assoc, append-nil}
 use Rattle.std.proofs.lemmas.Bool.Decides.{nat_tests}
-use Rattle.std.proofs.lemmas.List.{length-drop}
 use Rattle.x509_der.proofs.Marked.{nothing}
 use Rattle.x509_paths.specs.declared.part.Part.{Part}
 use Rattle.x509_der.specs.declared.header.Header.{Header}
@@ -11,13 +10,9 @@ use Rattle.x509_paths.specs.Seen.{Seen, seen}
 use Rattle.x509_paths.specs.Paths.{size_of}
 use Rattle.x509_leniencies.specs.declared.judged.Judged.{Judged}
 use Rattle.x509_leniencies.specs.declared.judged.Judged.TheVariants.{Absent, Plain, Lenient, Unjudged}
-use Rattle.x509_leniencies.specs.Judgements.{Around, is_absent, is_leaf, judged}
+use Rattle.x509_leniencies.specs.Judgements.{Around, is_absent, judged}
 use Rattle.x509_leniencies.specs.declared.leniency.Leniency.TheVariants.{BytesBehind}
-use Rattle.x509_leniencies.specs.Uses.{Look, Use, behind_of, contents_of, inside, inside_seen, is_wrapper, member_judged, member_seen, member_stepped, members, one_use, own_rule, uses_by, rule_of, told, unread_rule}
-
--- what is looked at in an element that may be so deep
-abbrev pub within : ℕ → Part → Look
-within n part = λ c j a w. told (rule_of part c) j a (inside n c.part a w)
+use Rattle.x509_leniencies.specs.Uses.{Look, Use, among, behind_of, contents_of, inside, inside_seen, is_wrapper, member_judged, member_seen, member_stepped, members, one_use, own_rule, uses_by, told, unread_rule, within}
 
 pub inside_deepest : (part : Part) (at : ℕ) (place : List ℕ) → inside zero part at place ≡ []
 unfolding inside
@@ -85,21 +80,20 @@ member_there look n standing around at place s step j some is goes told stands =
 
 -- ---- what was found, and what is used from there on
 
--- so contents and fields begin
-pub begun : (n : ℕ) (part : Part) (at : ℕ) (place : List ℕ) (s : Seen) (contents : List ℕ) (standing : Standing) (m : ℕ) → Some s ≡ seen place → contents ≡ contents_of part place s → standing ≡ first_of part → m ≡ length contents
-    → inside (suc n) part at place ≡ uses_by (own_rule part place s) at ++ members (within n part) m standing (record { part = part; octets = place }) (at + s.size) contents
-begun n part at place s contents standing m is holds stands all =
-    inside_seen_so n part at place s is
-    ∙ ap (λ more. uses_by (own_rule part place s) at ++ more)
-    (ap (λ octets. members (within n part) (length octets) (first_of part) (record { part = part; octets = place }) (at + s.size) octets) (sym holds)
-    ∙ ap (λ first. members (within n part) (length contents) first (record { part = part; octets = place }) (at + s.size) contents) (sym stands)
-    ∙ ap (λ k. members (within n part) k standing (record { part = part; octets = place }) (at + s.size) contents) (sym all))
-
 pub nothing_more : (found more : List Use) → more ≡ [] → found ≡ found ++ more
 nothing_more found more none = sym (ap (λ us. found ++ us) none ∙ append-nil found)
 
 pub begins : (before found own more all : List Use) → found ≡ before ++ own → all ≡ own ++ more → found ++ more ≡ before ++ all
 begins before found own more all grew is = ap (λ us. us ++ more) grew ∙ append_assoc before own more ∙ ap (λ us. before ++ us) (sym is)
+
+-- so the members begin: none was looked at
+pub begun : (n : ℕ) (part : Part) (at : ℕ) (place : List ℕ) (s : Seen) (members : List ℕ) → Some s ≡ seen place → members ≡ contents_of part place s
+    → inside (suc n) part at place ≡ uses_by (own_rule part place s) at ++ among n part place (at + s.size) members
+begun n part at place s members is holds =
+    inside_seen_so n part at place s is ∙ ap (λ octets. uses_by (own_rule part place s) at ++ among n part place (at + s.size) octets) (sym holds)
+
+pub both_added : (before found last own more all : List Use) → found ≡ before ++ own → all ≡ own ++ more → last ≡ found ++ more → last ≡ before ++ all
+both_added before found last own more all grew is after = after ∙ begins before found own more all grew is
 
 pub ended : (found more all : List Use) → found ++ more ≡ all → more ≡ [] → found ≡ all
 ended found more all is none = nothing_more found more none ∙ is
@@ -111,15 +105,6 @@ pub goes_on : (before found new more rest all : List Use) → found ≡ before +
 goes_on before found new more rest all grew is total = begins before found new rest more grew is ∙ total
 
 -- ---- sizes
-
-contents_by : (wrapper leaf : Bool) (place : List ℕ) (s : Seen) → s.size + length s.contents + length s.behind ≡ length place
-    → s.size + length (if wrapper then drop s.size place else if leaf then [] else s.contents) ≤ length place
-contents_by true leaf place s whole = omega (arith, whole, length-drop s.size place)
-contents_by false true place s whole = omega (arith, whole)
-contents_by false false place s whole = omega (arith, whole)
-
-pub contents_fit : (part : Part) (place : List ℕ) (s : Seen) → s.size + length s.contents + length s.behind ≡ length place → s.size + length (contents_of part place s) ≤ length place
-contents_fit part place s whole = contents_by (is_wrapper part) (is_leaf part) place s whole
 
 behind_by : (wrapper : Bool) (s : Seen) → length (if wrapper then [] else s.behind) ≤ length s.behind
 behind_by true s = omega arith

@@ -145,6 +145,14 @@ unfoldable pub inside : ℕ → Part → ℕ → List ℕ → List Use
 inside zero part at place = []
 inside (suc n) part at place = inside_seen (λ c j a w. told (rule_of part c) j a (inside n c.part a w)) part at place (seen place)
 
+-- what is looked at in an element that may be so deep
+abbrev pub within : ℕ → Part → Look
+within n part = λ c j a w. told (rule_of part c) j a (inside n c.part a w)
+
+-- the rules that are used among the members of such an element, which stand behind so many octets
+abbrev pub among : ℕ → Part → List ℕ → ℕ → List ℕ → List Use
+among n part place at contents = members (within n part) (length contents) (first_of part) (record { part = part; octets = place }) at contents
+
 abbrev pub deepest : ℕ
 deepest = 32
 

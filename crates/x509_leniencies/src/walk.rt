@@ -5,7 +5,7 @@ ghost use Rattle.x509_paths.specs.Cursors.{called_of};
 ghost use Rattle.x509_paths.specs.Seen.{seen_of};
 ghost use Rattle.x509_leniencies.specs.Judgements.{part_judged};
 ghost use Rattle.x509_leniencies.specs.declared.judged.Judged.TheVariants.{Lenient, Plain};
-ghost use Rattle.x509_leniencies.specs.Uses.{behind_of, closes, contents_of, deepest, inside, is_wrapper, leniencies};
+ghost use Rattle.x509_leniencies.specs.Uses.{among, behind_of, closes, contents_of, deepest, inside, is_wrapper, leniencies};
 ghost use Rattle.x509_leniencies.specs.Uses.{one_use, own_rule, uses_by, part_rule, rule_of, told, unless, unread_rule};
 
 use crate::judged::{Judged, is_absent, is_leaf, is_name, judge, judge_part};
@@ -183,34 +183,49 @@ fn look_inside(
         return Ok(());
     };
     add_own(part, place, &element, uses, at)?;
+    let members = contents_of(part, place, &element);
+    look_at_members(
+        alloc,
+        depth - 1,
+        part,
+        place,
+        at + element.size,
+        members,
+        uses,
+    )
+}
+
+/// Puts the rules there that are used among the members of such an element, which stand behind so many octets of the object.
+#[cycle(walking)]
+fn look_at_members(
+    alloc: Global,
+    depth: usize,
+    part: Part,
+    place: &[u8],
+    at: usize,
+    members: &[u8],
+    uses: &mut Vec<LenientUse>,
+) -> Result<(), AllocError>
+    requires { at + length members.now < 2 ^ 64 }
+    ensures { OnOk result (uses.new.items ≡ uses.old.items ++ among depth part place.now at members.now) }
+{
     let mut cursor = Cursor::of(part);
-    let mut left = contents_of(part, place, &element);
-    let mut next = at + element.size;
-    for _ in 0..left.len() {
+    let mut left = members;
+    let mut next = at;
+    for _ in 0..members.len() {
         if left.is_empty() {
             break;
         }
         let Some(member) = see(left) else {
-            add(uses, Leniency::BytesBehind, next)?;
-            return Ok(());
+            return add(uses, Leniency::BytesBehind, next);
         };
         let (called, behind) = cursor.step(&member.header, member.contents);
         let judged = judge(alloc, &called, part, place, left)?;
         if is_absent(judged) {
-            add_by(uses, unread_rule(&called), next)?;
-            return Ok(());
+            return add_by(uses, unread_rule(&called), next);
         }
         let rule = rule_of(part, &called);
-        tell(
-            alloc,
-            depth - 1,
-            called.part,
-            rule,
-            judged,
-            next,
-            left,
-            uses,
-        )?;
+        tell(alloc, depth, called.part, rule, judged, next, left, uses)?;
         cursor = behind;
         next += member.size + member.contents.len();
         left = behind_of(called.part, &member);

@@ -11,7 +11,7 @@ use Rattle.x509_fields.specs.Errors.{is_x509_memory}
 use Rattle.x509_fields.specs.Fields.{Field}
 use Rattle.x509_fields.specs.declared.error.X509Error.{X509Error}
 use Rattle.x509_report_objects.proofs.Refused.{refused_where}
-use Rattle.x509_refused_values.specs.declared.refused_value.RefusedValue.{RefusedValue}
+use Rattle.x509_dump.specs.declared.refused.refused_value.RefusedValue.{RefusedValue}
 use Rattle.x509_report.specs.Dumps.{count_found, found_lines, marked_lines, refusal_by, refusal_of, values_behind}
 use Rattle.x509_report.specs.Told.{WritesFront}
 use Rattle.x509_report.specs.declared.dumps.View.{View}

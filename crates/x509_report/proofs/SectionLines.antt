@@ -6,7 +6,7 @@ use Rattle.x509_dump.specs.Walks.{IsNext, left}
 use Rattle.x509_dump.specs.declared.line.DumpLine.{DumpLine as RustLine}
 use Rattle.x509_dump.specs.declared.lines.DumpLines.{DumpLines}
 use Rattle.x509_dump.specs.PageElements.{open_behind}
-use Rattle.x509_refused_values.specs.declared.refused_value.RefusedValue.{RefusedValue}
+use Rattle.x509_dump.specs.declared.refused.refused_value.RefusedValue.{RefusedValue}
 use Rattle.x509_report.specs.Dumps.{count_found, values_behind}
 use Rattle.x509_report.specs.Sections.{found_section, opened_by, section_lines}
 use Rattle.x509_report.specs.Told.{Tells, WritesFront, text}

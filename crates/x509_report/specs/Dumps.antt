@@ -12,8 +12,8 @@ use Rattle.x509_dump.specs.Texts.{at_right, line_text}
 use Rattle.x509_fields.specs.Errors.{x509_word}
 use Rattle.x509_fields.specs.Fields.{Field}
 use Rattle.x509_fields.specs.declared.error.X509Error.{X509Error}
-use Rattle.x509_refused_values.specs.RefusedValues.{refused_values}
-use Rattle.x509_refused_values.specs.declared.refused_value.RefusedValue.{RefusedValue}
+use Rattle.x509_dump.specs.RefusedValues.{refused_values}
+use Rattle.x509_dump.specs.declared.refused.refused_value.RefusedValue.{RefusedValue}
 use Rattle.x509_lists.specs.CertificateList.{certificate_list}
 use Rattle.x509_paths.specs.declared.part.Part.{Part}
 use Rattle.x509_paths.specs.declared.part.Part.TheVariants as parts

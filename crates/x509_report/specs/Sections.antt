@@ -9,7 +9,7 @@ use Rattle.x509_fields.specs.declared.error.X509Error.{X509Error}
 use Rattle.x509_paths.specs.declared.part.Part.{Part}
 use Rattle.x509_dump.specs.PageElements.{closings, element_page, mark_page, open_behind}
 use Rattle.x509_dump.specs.PageOctets.{octets_page}
-use Rattle.x509_refused_values.specs.declared.refused_value.RefusedValue.{RefusedValue}
+use Rattle.x509_dump.specs.declared.refused.refused_value.RefusedValue.{RefusedValue}
 use Rattle.x509_report.specs.Dumps.{dump_lines, holds, part_of, part_word, refused_in, values_behind, values_in}
 use Rattle.x509_report.specs.declared.dumps.View.{View}
 use Rattle.x509_report.specs.declared.dumps.View.TheVariants as views

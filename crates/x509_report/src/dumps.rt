@@ -18,11 +18,10 @@ use std::alloc::{AllocError, Global};
 use std::io::Write;
 use x509_certs::{parse_x509_certificate_located, parse_x509_certificate_marked};
 use x509_der::Located;
-use x509_dump::{DumpLine, dump, push_line};
+use x509_dump::{DumpLine, RefusedValue, dump, push_line, refused_values};
 use x509_fields::X509Error;
 use x509_lists::{parse_x509_crl_located, parse_x509_crl_marked};
 use x509_paths::Part;
-use x509_refused_values::{RefusedValue, refused_values};
 use x509_report_objects::Wishes;
 use x509_requests::{parse_x509_csr_located, parse_x509_csr_marked};
 

@@ -17,10 +17,9 @@ use std::alloc::{AllocError, Global};
 use std::io::Write;
 use x509_der::Located;
 use x509_dump::page::{push_closings, push_element, push_mark, push_octets};
-use x509_dump::{DumpLine, dump};
+use x509_dump::{DumpLine, RefusedValue, dump, refused_values};
 use x509_fields::X509Error;
 use x509_paths::Part;
-use x509_refused_values::{RefusedValue, refused_values};
 use x509_report_objects::Wishes;
 
 /// Why a reader refuses, in words.

@@ -10,8 +10,8 @@ use Rattle.x509_requests.specs.CriAttribute.{Attribute, ParsedAttribute, Extensi
 use Rattle.x509_requests.specs.RequestInfo.{RequestInfo}
 use Rattle.x509_der.specs.Words.{refusal_word}
 use Rattle.x509_fields.specs.Errors.{x509_word}
-use Rattle.x509_refused_values.specs.RefusedValues.{refused_values}
-use Rattle.x509_refused_values.specs.declared.refused_value.RefusedValue.{RefusedValue}
+use Rattle.x509_dump.specs.RefusedValues.{refused_values}
+use Rattle.x509_dump.specs.declared.refused.refused_value.RefusedValue.{RefusedValue}
 use Rattle.x509_paths.specs.Paths.{deepest, path}
 use Rattle.x509_paths.specs.declared.part.Part.{Part}
 use Rattle.x509_report_lines.specs.Says.{count, items_of, optional, record_of}

@@ -52,8 +52,7 @@ pub(crate) fn say_serial(
     hex_under(alloc, out, "hex", number.as_bytes())?;
     hex_under(alloc, out, "raw", raw)?;
     shown_under(alloc, out, "decimal", number)?;
-    out.end_object()?;
-    Ok(())
+    out.end_object()
 }
 
 fn say_texts(out: &mut Line, texts: &[String]) -> Result<(), AllocError>
@@ -73,8 +72,7 @@ fn texts_under(out: &mut Line, key: &str, texts: &[String]) -> Result<(), AllocE
     out.key(key)?;
     out.begin_array()?;
     say_texts(out, texts)?;
-    out.end_array()?;
-    Ok(())
+    out.end_array()
 }
 
 /// What the validator of the structure answers and tells.
@@ -92,8 +90,7 @@ fn say_validator(
     truth_under(out, "accepts", accepts)?;
     texts_under(out, "warnings", &warnings)?;
     texts_under(out, "errors", &errors)?;
-    out.end_object()?;
-    Ok(())
+    out.end_object()
 }
 
 fn say_head(
@@ -204,6 +201,5 @@ pub fn certificate_members(
     say_names(alloc, out, tbs)?;
     say_key_and_extensions(alloc, out, fingerprints, tbs)?;
     say_tail(alloc, out, certificate)?;
-    say_summary(alloc, out, tbs.extensions())?;
-    Ok(())
+    say_summary(alloc, out, tbs.extensions())
 }

@@ -68,8 +68,7 @@ fn say_extension(
     out.key("value")?;
     say_value(alloc, out, parsed)?;
     hex_under(alloc, out, "der", extension.value)?;
-    out.end_object()?;
-    Ok(())
+    out.end_object()
 }
 
 fn say_extensions(
@@ -98,6 +97,5 @@ pub(crate) fn extensions_under(
     out.key(key)?;
     out.begin_array()?;
     say_extensions(alloc, out, extensions)?;
-    out.end_array()?;
-    Ok(())
+    out.end_array()
 }

@@ -23,8 +23,7 @@ fn say_use(out: &mut Line, path: Option<&str>, used: &LenientUse) -> Result<(), 
     text_under(out, "rule", used.rule.word())?;
     count_under(out, "at", used.at as u64)?;
     optional_text_under(out, "path", path)?;
-    out.end_object()?;
-    Ok(())
+    out.end_object()
 }
 
 /// The same with the path of fields in these octets, which are such a part.
@@ -72,8 +71,7 @@ pub(crate) fn uses_under(
     out.key(key)?;
     out.begin_array()?;
     say_each_with_path(alloc, out, part, octets, first_of(uses, TOLD))?;
-    out.end_array()?;
-    Ok(())
+    out.end_array()
 }
 
 /// The rules that an object uses; of one that stands plainly it isn't asked.

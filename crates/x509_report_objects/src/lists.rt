@@ -234,6 +234,5 @@ pub fn entry_line(
     say_place(out, "entry", place)?;
     say_number(alloc, out, fingerprint, number)?;
     entry_members(alloc, out, entry)?;
-    out.end_object()?;
-    Ok(())
+    out.end_object()
 }

@@ -295,8 +295,7 @@ fn say_refused(
                 some_text(path.as_str()),
             )?;
             uses_under(alloc, out, "leniencies", part, octets, uses.as_slice())?;
-            out.end_object()?;
-            Ok(())
+            out.end_object()
         }
         None => Ok(()),
     }
@@ -326,8 +325,7 @@ fn tried_under(
     out.key(key)?;
     out.begin_array()?;
     say_tried(alloc, out, octets, tried)?;
-    out.end_array()?;
-    Ok(())
+    out.end_array()
 }
 
 /// That no reader takes the object.
@@ -346,8 +344,7 @@ fn say_refusal(
     say_place(out, "refusal", place)?;
     say_octets(alloc, out, wishes.fingerprints, place, octets)?;
     tried_under(alloc, out, "tried", octets, tried)?;
-    out.end_object()?;
-    Ok(())
+    out.end_object()
 }
 
 /// What was tried by other means than a reader of objects, under a key.
@@ -367,8 +364,7 @@ fn attempt_under(
     say_attempt(out, kind, None, word, None, None)?;
     uses_under(alloc, out, "leniencies", Part::Unknown, &[], &[])?;
     out.end_object()?;
-    out.end_array()?;
-    Ok(())
+    out.end_array()
 }
 
 /// Writes the line of octets that no reader of objects was given, as something before them failed: what that was, and why.
@@ -388,8 +384,7 @@ pub fn failed_line(
     say_place(out, "refusal", place)?;
     say_octets(alloc, out, wishes.fingerprints, place, octets)?;
     attempt_under(alloc, out, "tried", kind, word)?;
-    out.end_object()?;
-    Ok(())
+    out.end_object()
 }
 
 /// Writes the line of a block that holds none of the objects that are wanted, by its label.
@@ -406,8 +401,7 @@ pub fn skipped_line(
     out.begin_object()?;
     say_place(out, "skipped", place)?;
     say_octets(alloc, out, wishes.fingerprints, place, octets)?;
-    out.end_object()?;
-    Ok(())
+    out.end_object()
 }
 
 /// Writes the line of the object at the front of the octets: as the first of the kinds that are wanted whose reader takes it, and else

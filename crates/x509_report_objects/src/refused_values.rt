@@ -14,10 +14,10 @@ ghost use Rattle.x509_report_objects.specs.RefusedValues.{report_with_path, some
 use crate::errors::refusal_name;
 use crate::values::{count_under, first_of, optional_text_under, text_under};
 use std::alloc::{AllocError, Global};
+use x509_dump::{RefusedValue, refused_values};
 use x509_extensions::X509Extension;
 use x509_lists::{CertificateRevocationList, RevokedCertificate};
 use x509_paths::{Part, path_to};
-use x509_refused_values::{RefusedValue, refused_values};
 use x509_report_lines::Line;
 use x509_requests::{ParsedCriAttribute, X509CertificationRequest, X509CriAttribute};
 
@@ -40,8 +40,7 @@ fn say_value(out: &mut Line, path: Option<&str>, value: &RefusedValue) -> Result
     text_under(out, "word", value.why.word())?;
     count_under(out, "at", value.at as u64)?;
     optional_text_under(out, "path", path)?;
-    out.end_object()?;
-    Ok(())
+    out.end_object()
 }
 
 /// The same with the path of fields in these octets, which are such a part.
@@ -204,6 +203,5 @@ pub(crate) fn refused_under(
     out.key(key)?;
     out.begin_array()?;
     say_values(alloc, out, part, octets, values.as_slice())?;
-    out.end_array()?;
-    Ok(())
+    out.end_array()
 }

@@ -55,8 +55,7 @@ fn say_attribute(
     oid_members(alloc, out, &attribute.oid)?;
     say_parsed(alloc, out, attribute.parsed_attribute())?;
     hex_under(alloc, out, "der", attribute.value)?;
-    out.end_object()?;
-    Ok(())
+    out.end_object()
 }
 
 fn say_attributes(
@@ -85,8 +84,7 @@ fn attributes_under(
     out.key(key)?;
     out.begin_array()?;
     say_attributes(alloc, out, attributes)?;
-    out.end_array()?;
-    Ok(())
+    out.end_array()
 }
 
 /// What is signed.

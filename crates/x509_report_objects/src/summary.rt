@@ -94,8 +94,7 @@ fn hosts_under(
     out.key(key)?;
     out.begin_array()?;
     say_hosts_of(alloc, out, extensions)?;
-    out.end_array()?;
-    Ok(())
+    out.end_array()
 }
 
 /// What an extension says, where there is one.

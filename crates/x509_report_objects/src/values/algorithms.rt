@@ -27,8 +27,7 @@ impl Said for BitString<'_> {
         out.begin_object()?;
         hex_under(alloc, out, "hex", self.bytes)?;
         count_under(out, "unused_bits", u64::from(self.unused_bits))?;
-        out.end_object()?;
-        Ok(())
+        out.end_object()
     }
 }
 
@@ -44,8 +43,7 @@ impl Said for Any<'_> {
         out.begin_object()?;
         count_under(out, "tag", u64::from(self.tag().0))?;
         hex_under(alloc, out, "hex", self.as_bytes())?;
-        out.end_object()?;
-        Ok(())
+        out.end_object()
     }
 }
 
@@ -65,7 +63,6 @@ impl Said for AlgorithmIdentifier<'_> {
             None => null_under(out, "hash")?,
         }
         optional_under(alloc, out, "parameters", &self.parameters)?;
-        out.end_object()?;
-        Ok(())
+        out.end_object()
     }
 }

@@ -39,8 +39,7 @@ impl Said for ReasonFlags {
         out.begin_object()?;
         count_under(out, "flags", u64::from(self.flags))?;
         names_under(out, "reasons", self.names())?;
-        out.end_object()?;
-        Ok(())
+        out.end_object()
     }
 }
 
@@ -61,8 +60,7 @@ impl Said for AuthorityKeyIdentifier<'_> {
         optional_hex_under(alloc, out, "key_identifier", identifier)?;
         optional_list_under(alloc, out, "issuer", &self.authority_cert_issuer)?;
         optional_hex_under(alloc, out, "serial", self.authority_cert_serial)?;
-        out.end_object()?;
-        Ok(())
+        out.end_object()
     }
 }
 
@@ -134,8 +132,7 @@ impl Said for CRLDistributionPoint<'_> {
         say_point_name(alloc, out, &self.distribution_point)?;
         optional_under(alloc, out, "reasons", &self.reasons)?;
         optional_list_under(alloc, out, "crl_issuer", &self.crl_issuer)?;
-        out.end_object()?;
-        Ok(())
+        out.end_object()
     }
 }
 
@@ -174,8 +171,7 @@ impl Said for IssuingDistributionPoint<'_> {
         out.begin_object()?;
         say_point_name(alloc, out, &self.distribution_point)?;
         say_cover(alloc, out, self)?;
-        out.end_object()?;
-        Ok(())
+        out.end_object()
     }
 }
 
@@ -191,7 +187,6 @@ impl Said for AccessDescription<'_> {
         out.begin_object()?;
         oid_members(alloc, out, &self.access_method)?;
         value_under(alloc, out, "location", &self.access_location)?;
-        out.end_object()?;
-        Ok(())
+        out.end_object()
     }
 }

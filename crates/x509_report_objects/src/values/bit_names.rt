@@ -26,6 +26,5 @@ pub fn names_under(out: &mut Line, key: &str, names: BitNames) -> Result<(), All
     out.key(key)?;
     out.begin_array()?;
     say_names(out, names)?;
-    out.end_array()?;
-    Ok(())
+    out.end_array()
 }

@@ -97,8 +97,7 @@ impl Said for GeneralName<'_> {
     fn say(&self, alloc: Global, out: &mut Line) -> Result<(), AllocError> {
         out.begin_object()?;
         say_members(alloc, out, self)?;
-        out.end_object()?;
-        Ok(())
+        out.end_object()
     }
 }
 
@@ -126,7 +125,6 @@ impl Said for NameConstraints<'_> {
         out.begin_object()?;
         optional_list_under(alloc, out, "permitted", &self.permitted_subtrees)?;
         optional_list_under(alloc, out, "excluded", &self.excluded_subtrees)?;
-        out.end_object()?;
-        Ok(())
+        out.end_object()
     }
 }

@@ -31,7 +31,6 @@ impl Said for Oid<'_> {
     fn say(&self, alloc: Global, out: &mut Line) -> Result<(), AllocError> {
         out.begin_object()?;
         oid_members(alloc, out, self)?;
-        out.end_object()?;
-        Ok(())
+        out.end_object()
     }
 }

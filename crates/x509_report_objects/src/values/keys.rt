@@ -73,8 +73,7 @@ fn say_size(out: &mut Line, info: &SubjectPublicKeyInfo<'_>) -> Result<(), Alloc
     ensures { SaysMembers result out.old out.new (key_size_members (key_info_of info.now)) }
 {
     size_under(out, "size", info)?;
-    curve_under(out, "curve", info)?;
-    Ok(())
+    curve_under(out, "curve", info)
 }
 
 /// The two numbers of an RSA key.
@@ -113,6 +112,5 @@ pub fn say_key(
     say_numbers(alloc, out, info)?;
     value_under(alloc, out, "bits", &info.subject_public_key)?;
     fingerprint_under(alloc, out, "sha256", fingerprints, info.raw)?;
-    out.end_object()?;
-    Ok(())
+    out.end_object()
 }

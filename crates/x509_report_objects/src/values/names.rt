@@ -46,8 +46,7 @@ impl Said for AttributeTypeAndValue<'_> {
         oid_members(alloc, out, self.attr_type())?;
         count_under(out, "tag", u64::from(self.attr_value().tag().0))?;
         say_value(alloc, out, self)?;
-        out.end_object()?;
-        Ok(())
+        out.end_object()
     }
 }
 
@@ -76,8 +75,7 @@ impl Said for RelativeDistinguishedName<'_> {
     fn say(&self, alloc: Global, out: &mut Line) -> Result<(), AllocError> {
         out.begin_array()?;
         say_attributes(alloc, out, self)?;
-        out.end_array()?;
-        Ok(())
+        out.end_array()
     }
 }
 
@@ -102,8 +100,7 @@ fn say_list_of_relative_names(
 {
     out.begin_array()?;
     say_relative_names(alloc, out, name)?;
-    out.end_array()?;
-    Ok(())
+    out.end_array()
 }
 
 impl Said for X509Name<'_> {
@@ -121,7 +118,6 @@ impl Said for X509Name<'_> {
         out.key("rdns")?;
         say_list_of_relative_names(alloc, out, self)?;
         hex_under(alloc, out, "der", self.as_raw())?;
-        out.end_object()?;
-        Ok(())
+        out.end_object()
     }
 }

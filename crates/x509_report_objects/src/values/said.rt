@@ -42,8 +42,7 @@ pub fn say_list<T: Said>(alloc: Global, out: &mut Line, values: &[T]) -> Result<
 {
     out.begin_array()?;
     say_each(alloc, out, values)?;
-    out.end_array()?;
-    Ok(())
+    out.end_array()
 }
 
 /// A value under a key.
@@ -56,8 +55,7 @@ pub fn value_under<T: Said>(
     ensures { SaysUnder result out.old out.new key.now (T.report (T.view value.now)) }
 {
     out.key(key)?;
-    value.say(alloc, out)?;
-    Ok(())
+    value.say(alloc, out)
 }
 
 /// A list under a key.
@@ -70,8 +68,7 @@ pub fn list_under<T: Said>(
     ensures { SaysUnder result out.old out.new key.now (list_of T.report (map T.view values.now)) }
 {
     out.key(key)?;
-    say_list(alloc, out, values)?;
-    Ok(())
+    say_list(alloc, out, values)
 }
 
 /// A list that may be absent, under a key.

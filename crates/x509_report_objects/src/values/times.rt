@@ -54,7 +54,6 @@ impl Said for ASN1Time {
         say_text(alloc, out, self)?;
         seconds_under(out, "unix", self.timestamp())?;
         text_under(out, "form", form_word(self))?;
-        out.end_object()?;
-        Ok(())
+        out.end_object()
     }
 }

@@ -47,7 +47,6 @@ impl Said for SignedCertificateTimestamp<'_> {
         out.begin_object()?;
         say_promise(alloc, out, self)?;
         say_signed(alloc, out, &self.signature)?;
-        out.end_object()?;
-        Ok(())
+        out.end_object()
     }
 }

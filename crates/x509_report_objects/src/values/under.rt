@@ -16,8 +16,7 @@ pub fn text_under(out: &mut Line, name: &str, text: &str) -> Result<(), AllocErr
     ensures { SaysUnder result out.old out.new name.now (json.string text.now) }
 {
     out.key(name)?;
-    out.string(text)?;
-    Ok(())
+    out.string(text)
 }
 
 /// A number under a key.
@@ -25,8 +24,7 @@ pub fn count_under(out: &mut Line, name: &str, n: u64) -> Result<(), AllocError>
     ensures { SaysUnder result out.old out.new name.now (count n) }
 {
     out.key(name)?;
-    out.u64(n)?;
-    Ok(())
+    out.u64(n)
 }
 
 /// Whether something holds, under a key.
@@ -34,8 +32,7 @@ pub fn truth_under(out: &mut Line, name: &str, b: bool) -> Result<(), AllocError
     ensures { SaysUnder result out.old out.new name.now (json.boolean b) }
 {
     out.key(name)?;
-    out.boolean(b)?;
-    Ok(())
+    out.boolean(b)
 }
 
 /// A number that may be absent, under a key.
@@ -60,8 +57,7 @@ pub fn shown_under<T: fmt::Display>(
 {
     let text = format!(in alloc; "{value}")?;
     out.key(name)?;
-    out.string(&text)?;
-    Ok(())
+    out.string(&text)
 }
 
 /// Octets in hex.

@@ -38,8 +38,7 @@ impl Said for BasicConstraints {
         out.begin_object()?;
         truth_under(out, "ca", self.ca)?;
         optional_count_under(out, "path_len", self.path_len_constraint)?;
-        out.end_object()?;
-        Ok(())
+        out.end_object()
     }
 }
 
@@ -55,8 +54,7 @@ impl Said for KeyUsage {
         out.begin_object()?;
         count_under(out, "flags", u64::from(self.flags))?;
         names_under(out, "uses", self.names())?;
-        out.end_object()?;
-        Ok(())
+        out.end_object()
     }
 }
 
@@ -72,8 +70,7 @@ impl Said for NSCertType {
         out.begin_object()?;
         count_under(out, "flags", u64::from(self.flags))?;
         names_under(out, "types", self.names())?;
-        out.end_object()?;
-        Ok(())
+        out.end_object()
     }
 }
 
@@ -89,8 +86,7 @@ impl Said for PolicyConstraints {
         out.begin_object()?;
         optional_count_under(out, "require_explicit_policy", self.require_explicit_policy)?;
         optional_count_under(out, "inhibit_policy_mapping", self.inhibit_policy_mapping)?;
-        out.end_object()?;
-        Ok(())
+        out.end_object()
     }
 }
 
@@ -105,8 +101,7 @@ impl Said for InhibitAnyPolicy {
     fn say(&self, _alloc: Global, out: &mut Line) -> Result<(), AllocError> {
         out.begin_object()?;
         count_under(out, "skip_certs", u64::from(self.skip_certs))?;
-        out.end_object()?;
-        Ok(())
+        out.end_object()
     }
 }
 
@@ -122,8 +117,7 @@ impl Said for PolicyQualifierInfo<'_> {
         out.begin_object()?;
         oid_members(alloc, out, &self.policy_qualifier_id)?;
         hex_under(alloc, out, "hex", self.qualifier)?;
-        out.end_object()?;
-        Ok(())
+        out.end_object()
     }
 }
 
@@ -139,8 +133,7 @@ impl Said for PolicyInformation<'_> {
         out.begin_object()?;
         oid_members(alloc, out, &self.policy_id)?;
         optional_list_under(alloc, out, "qualifiers", &self.policy_qualifiers)?;
-        out.end_object()?;
-        Ok(())
+        out.end_object()
     }
 }
 
@@ -166,8 +159,7 @@ impl Said for PolicyMapping<'_> {
             "subject_domain_policy",
             &self.subject_domain_policy,
         )?;
-        out.end_object()?;
-        Ok(())
+        out.end_object()
     }
 }
 
@@ -192,8 +184,7 @@ impl Said for ExtendedKeyUsage<'_> {
         out.begin_object()?;
         set_words_under(out, "purposes", &purposes)?;
         list_under(alloc, out, "other", self.other.as_slice())?;
-        out.end_object()?;
-        Ok(())
+        out.end_object()
     }
 }
 
@@ -209,7 +200,6 @@ impl Said for ReasonCode {
         out.begin_object()?;
         count_under(out, "code", u64::from(self.0))?;
         text_under(out, "reason", self.word())?;
-        out.end_object()?;
-        Ok(())
+        out.end_object()
     }
 }

@@ -1,7 +1,7 @@
 -- The values that are marked are those of the object as it is seen.
 use Rattle.std.proofs.Common.{ap, subst, ◌∙◌, rules}
 use Rattle.x509_dump.specs.Elements.{elements_of}
-use Rattle.x509_refused_values.specs.RefusedValues.{refused_values}
+use Rattle.x509_dump.specs.RefusedValues.{refused_values}
 use Rattle.x509_report.specs.Dumps.{dump_lines, marked_lines, part_of}
 use Rattle.x509_report.specs.Told.{Tells}
 use Rattle.x509_report.proofs.dumps.report_view.Goals as goal

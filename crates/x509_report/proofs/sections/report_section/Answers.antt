@@ -1,6 +1,6 @@
 use Rattle.std.proofs.Common.{◌∷◌, [], ap, codes, subst, ◌∙◌, rules}
 use Rattle.x509_dump.specs.Elements.{elements_of}
-use Rattle.x509_refused_values.specs.RefusedValues.{refused_values}
+use Rattle.x509_dump.specs.RefusedValues.{refused_values}
 use Rattle.x509_report.specs.Dumps.{part_of}
 use Rattle.x509_report.specs.Sections.{section_all, section_lines, section_page}
 use Rattle.x509_report.specs.Told.{Tells}

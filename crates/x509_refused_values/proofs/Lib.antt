@@ -1,3 +1,0 @@
-pub mod Within
-pub mod Refusals
-pub mod Leftover

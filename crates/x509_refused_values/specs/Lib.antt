@@ -1,4 +1,0 @@
-pub mod Values
-pub mod Readings
-pub mod RefusedValues
-pub mod Findings
