@@ -1,7 +1,7 @@
 //! Objects of any kind, alone and one behind another, by the calls that are x509_parser's own.
 
-use crate::show::{Answer, Show};
 use x509_parser::{FoundObject, NoObject, Object, objects_in, parse_object};
+use x509_probe_answers::{Answer, Show};
 
 // What an object is.
 fn put_object(object: &Object<'_>, out: &mut Answer) {

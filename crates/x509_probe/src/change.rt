@@ -4,11 +4,11 @@ use crate::answers;
 use crate::lines::{Line, kind_of, put_line};
 use crate::promises::{self, Finding, Promise};
 use crate::rows::{NoRow, Row, row_of};
-use crate::show::Answer;
 use crate::work::Work;
 use std::alloc::{AllocError, Global};
 use std::io;
 use std::io::Write;
+use x509_probe_answers::Answer;
 
 /// How many inputs were made, how many of them are taken, and which promises were broken.
 #[derive(Clone, Copy)]

@@ -2,11 +2,11 @@
 
 use crate::lines::{Line, kind_of, put_expected, put_line};
 use crate::rows;
-use crate::show::Answer;
 use crate::work::Work;
 use std::alloc::{AllocError, Global};
 use std::io;
 use std::io::Write;
+use x509_probe_answers::Answer;
 
 /// How many rows there were, how many of them differ from what is expected, can't be read, or had no memory.
 #[derive(Clone, Copy)]

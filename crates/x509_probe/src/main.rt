@@ -11,11 +11,8 @@ mod calls;
 mod change;
 mod check;
 mod lines;
-mod objects;
 mod promises;
-mod readers;
 mod rows;
-mod show;
 mod work;
 
 use change::{Changes, put_changes};

@@ -1,6 +1,5 @@
 //! What holds of every input, whatever is answered: windows, depths, strict readers, counts, copies, the index, and that memory suffices.
 
-use crate::show::Show;
 use std::alloc::{AllocError, Global};
 use x509_certs::{X509Certificate, X509CertificateParser};
 use x509_der::{Err, FromDer, ReadError, Reader, Tries, read_any, read_any_loose};
@@ -8,6 +7,7 @@ use x509_extensions::{X509Extension, X509ExtensionParser};
 use x509_fields::{TryClone, X509Error};
 use x509_lists::{CertificateRevocationList, TbsCertList, parse_x509_crl_strict};
 use x509_names::X509Name;
+use x509_probe_answers::Show;
 use x509_requests::{X509CertificationRequest, parse_x509_csr_strict};
 use x509_revoked::RevocationIndex;
 

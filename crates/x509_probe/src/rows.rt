@@ -1,9 +1,9 @@
 //! Rows: a word, and the bytes that it is asked of, in hex.
 
 use crate::answers;
-use crate::show::Answer;
 use hex::FromHexError;
 use std::alloc::{AllocError, Global};
+use x509_probe_answers::Answer;
 
 /// A row: a word, and what it is asked of.
 #[derive(Drop)]

@@ -1,10 +1,10 @@
 //! Walks over certificates.
 
 use crate::calls::recorder::{Recorder, RecorderByValue, Walk, WalkByValue, number, put_end};
-use crate::show::{Answer, Look, look_at, look_in};
 use x509_certs::{TbsCertificate, X509Certificate, X509CertificateParser};
 use x509_der::Reader;
 use x509_fields::X509Error;
+use x509_probe_answers::{Answer, Look, look_at, look_in};
 use x509_visitors::{CertificateVisit, CertificateVisits, WalkCertificate, X509CertificateVisitor};
 
 impl CertificateVisits for RecorderByValue {

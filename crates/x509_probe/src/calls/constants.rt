@@ -1,6 +1,5 @@
 //! The public constants, by their names.
 
-use crate::show::Answer;
 use x509_der::Tag;
 use x509_fields::{ReasonCode, X509Version};
 use x509_names::{
@@ -20,6 +19,7 @@ use x509_names::{
     OID_X509_EXT_SUBJECT_ALT_NAME, OID_X509_EXT_SUBJECT_KEY_IDENTIFIER, OID_X509_LOCALITY_NAME,
     OID_X509_ORGANIZATION_NAME, OID_X509_ORGANIZATIONAL_UNIT, OID_X509_STATE_OR_PROVINCE_NAME,
 };
+use x509_probe_answers::Answer;
 use x509_values::CtVersion;
 
 // The reasons of revocation.

@@ -1,9 +1,9 @@
 //! Errors and reasons by numbers, and their texts.
 
-use crate::show::Answer;
 use std::fmt;
 use x509_der::{BerError, Err, ErrorKind, ReadError};
 use x509_fields::{NidError, ReasonCode, X509Error};
+use x509_probe_answers::Answer;
 
 // The errors of lists by numbers of their own.
 fn list_kind(number: u8) -> Option<ErrorKind> {

@@ -1,11 +1,11 @@
 //! Keys, and parameters of algorithms.
 
-use crate::show::{Answer, Show, both, put_result, read_both};
 use x509_der::{FromDer, Tries, read_any};
 use x509_fields::{AlgorithmIdentifier, X509Error};
 use x509_keys::{
     ECPoint, RsaAesOaepParams, RsaSsaPssParams, SignatureAlgorithm, SubjectPublicKeyInfo,
 };
+use x509_probe_answers::{Answer, Show, both, put_result, read_both};
 
 // The key of a key info.
 fn put_key(a: &[u8], out: &mut Answer) {

@@ -1,9 +1,9 @@
 //! Walks over lists.
 
 use crate::calls::recorder::{Recorder, RecorderByValue, Walk, WalkByValue, number, put_end};
-use crate::show::{Answer, Look, look_in};
 use x509_fields::X509Error;
 use x509_lists::{CertificateRevocationList, TbsCertList};
+use x509_probe_answers::{Answer, Look, look_in};
 use x509_visitors::{CertificateRevocationListVisitor, ListVisit, ListVisits, WalkRevocationList};
 
 impl ListVisits for RecorderByValue {

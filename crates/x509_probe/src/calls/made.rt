@@ -1,10 +1,10 @@
 //! Values that calls make of what was read: times in other forms and at other offsets, names by their members.
 
-use crate::show::{Answer, Look, Show, both, look_in, put_result};
 use std::alloc::{AllocError, Global};
 use x509_der::{FromDer, Oid};
 use x509_fields::{ASN1Time, OffsetDateTime, X509Error};
 use x509_names::{RelativeDistinguishedName, X509Name};
+use x509_probe_answers::{Answer, Look, Show, both, look_in, put_result};
 
 // A time made again in four ways.
 fn put_four(time: &ASN1Time, out: &mut Answer) {

@@ -18,7 +18,7 @@ mod registries;
 mod times;
 mod validators;
 
-use crate::show::Answer;
+use x509_probe_answers::Answer;
 
 /// Adds the answer to a word and its bytes; false where it is no word of such a call.
 pub fn answer(word: &str, a: &[u8], b: &[u8], out: &mut Answer) -> bool {

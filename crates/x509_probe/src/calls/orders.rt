@@ -1,8 +1,8 @@
 //! Which of two values comes first.
 
-use crate::show::Answer;
 use std::cmp::Ordering;
 use x509_der::{Oid, UnsignedBytes};
+use x509_probe_answers::Answer;
 
 // The word for an order.
 fn order_word(order: Ordering) -> &'static str {

@@ -1,10 +1,10 @@
 //! A visitor and logger that writes each visit and each message down.
 
-use crate::show::{Answer, Show, put_all};
 use std::alloc::Global;
 use x509_der::{BerError, Err};
 use x509_extensions::X509Extension;
 use x509_fields::X509Error;
+use x509_probe_answers::{Answer, Show, put_all};
 use x509_validators::Logger;
 
 /// Writes each visit and each message down, and refuses one of them.

@@ -1,12 +1,12 @@
 //! Names by registries of identifiers.
 
-use crate::show::{Answer, Look, look_in};
 use x509_der::Oid;
 use x509_fields::{NidError, X509Error};
 use x509_names::{
     OidEntry, OidRegistry, X509Name, oid_registry, oid2abbrev, oid2description, oid2sn,
     registry_full,
 };
+use x509_probe_answers::{Answer, Look, look_in};
 
 // A name of an identifier, or that there is none.
 fn put_word(out: &mut Answer, word: Result<&str, NidError>) {

@@ -2,11 +2,11 @@
 
 use crate::calls::orders::put_order;
 use crate::calls::registries::put_text;
-use crate::show::{Answer, Show, put_result, read_both};
 use jiff_duration::SignedDuration;
 use x509_certs::Validity;
 use x509_der::FromDer;
 use x509_fields::{ASN1Time, Clock};
+use x509_probe_answers::{Answer, Show, put_result, read_both};
 
 // Two times, compared.
 fn put_times(a: &[u8], b: &[u8], out: &mut Answer) {

@@ -1,7 +1,6 @@
 //! What validators say.
 
 use crate::calls::recorder::Recorder;
-use crate::show::{Answer, Look, look_at, look_in, put_result};
 use std::alloc::Global;
 use std::io;
 use std::io::{ErrorKind, Write};
@@ -11,6 +10,7 @@ use x509_extensions::X509Extension;
 use x509_fields::{ASN1Time, X509Error};
 use x509_keys::SubjectPublicKeyInfo;
 use x509_names::X509Name;
+use x509_probe_answers::{Answer, Look, look_at, look_in, put_result};
 use x509_requests::ExtensionRequest;
 use x509_validators::{
     StderrLogger, TbsCertificateStructureValidator, Validate, Validator, X509CertificateValidator,
