@@ -127,7 +127,7 @@ fn push_indent(text: &mut String, depth: usize) -> Result<(), AllocError>
 }
 
 /// The first octets, so many where there are more.
-fn first_of(octets: &[u8], count: usize) -> &[u8]
+pub(crate) fn first_of(octets: &[u8], count: usize) -> &[u8]
     ensures { result.now ≡ take count octets.now }
 {
     if count <= octets.len() {

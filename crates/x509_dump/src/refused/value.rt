@@ -1,7 +1,9 @@
 //! The value of an extension.
 
-ghost use Rattle.std.specs.Prelude.{◌≡◌, ◌-◌, drop, take};
+ghost use Rattle.std.specs.Prelude.{◌≡◌, ◌-◌, drop};
 ghost use Rattle.x509_dump.specs.Walks.{window};
+
+use crate::text::first_of;
 
 /// The contents of an element, in the octets of its object.
 #[derive(Clone, Copy)]
@@ -34,17 +36,6 @@ impl Contents {
         ensures { result.now ≡ window octets.now self.at self.end }
     {
         first_of(behind(octets, self.at), self.len())
-    }
-}
-
-/// The first octets, so many where there are more.
-fn first_of(octets: &[u8], count: usize) -> &[u8]
-    ensures { result.now ≡ take count octets.now }
-{
-    if count <= octets.len() {
-        &octets[..count]
-    } else {
-        octets
     }
 }
 
