@@ -1,8 +1,8 @@
 -- The word of a rule's number is its own.
 use Rattle.std.proofs.Common.{◌≡◌, ℕ, refl, ap, sym, ◌∙◌}
-use Rattle.x509_leniencies.specs.Words.{leniency_word}
-use Rattle.x509_leniencies.specs.declared.leniency.Leniency.{Leniency}
-use Rattle.x509_leniencies.specs.declared.leniency.Leniency.TheVariants.{BytesBehind, WrapperByNumber, AnySerial, BasicTruth, UnreadableField, AttributeByNumbers, ChoiceByNumber, UnreadableName, TimestampsBehind, Inside}
+use Rattle.x509_elements.specs.Words.{leniency_word}
+use Rattle.x509_elements.specs.declared.leniency.Leniency.{Leniency}
+use Rattle.x509_elements.specs.declared.leniency.Leniency.TheVariants.{BytesBehind, WrapperByNumber, AnySerial, BasicTruth, UnreadableField, AttributeByNumbers, ChoiceByNumber, UnreadableName, TimestampsBehind, Inside}
 use Rattle.x509_c.specs.Findings.{rule_number, rule_word}
 
 own_words : (r : Leniency) → rule_word (rule_number r) ≡ leniency_word r

@@ -1,8 +1,8 @@
 -- Paths of fields as C sees them.
 use Rattle.std.specs.Prelude.{◌≡◌, ℕ, ◌==◌, List, [], Option, Some, None, if◌then◌else◌}
-use Rattle.x509_paths.specs.declared.part.Part.{Part}
-use Rattle.x509_paths.specs.declared.part.Part.TheVariants as parts
-use Rattle.x509_paths.specs.Paths.{deepest, path}
+use Rattle.x509_elements.specs.declared.part.Part.{Part}
+use Rattle.x509_elements.specs.declared.part.Part.TheVariants as parts
+use Rattle.x509_elements.specs.Paths.{deepest, path}
 use Rattle.x509_c.specs.Text.{TellsText}
 
 -- 1 a certificate, 2 a list, 3 a request

@@ -1,11 +1,11 @@
 -- Lenient rules and values that are refused, as C sees them.
 use Rattle.std.specs.Prelude.{◌≡◌, ℕ, ◌==◌, List, codes, map, Option, Some, None, if◌then◌else◌}
-use Rattle.x509_leniencies.specs.Uses.{Use, leniencies}
-use Rattle.x509_leniencies.specs.declared.leniency.Leniency.{Leniency}
-use Rattle.x509_leniencies.specs.declared.leniency.Leniency.TheVariants.{BytesBehind, WrapperByNumber, AnySerial, BasicTruth, UnreadableField, AttributeByNumbers, ChoiceByNumber, UnreadableName, TimestampsBehind, Inside}
-use Rattle.x509_paths.specs.declared.part.Part.{Part}
-use Rattle.x509_dump.specs.declared.refused.refused_value.RefusedValue.{RefusedValue}
-use Rattle.x509_dump.specs.RefusedValues.{refused_values}
+use Rattle.x509_elements.specs.Uses.{Use, leniencies}
+use Rattle.x509_elements.specs.declared.leniency.Leniency.{Leniency}
+use Rattle.x509_elements.specs.declared.leniency.Leniency.TheVariants.{BytesBehind, WrapperByNumber, AnySerial, BasicTruth, UnreadableField, AttributeByNumbers, ChoiceByNumber, UnreadableName, TimestampsBehind, Inside}
+use Rattle.x509_elements.specs.declared.part.Part.{Part}
+use Rattle.x509_elements.specs.declared.refused.refused_value.RefusedValue.{RefusedValue}
+use Rattle.x509_elements.specs.RefusedValues.{refused_values}
 use Rattle.x509_c.specs.Rows.{AreTold}
 use Rattle.x509_c.specs.Status.{status_of}
 use Rattle.x509_c.specs.declared.findings.LenientUseRow.{LenientUseRow}

@@ -6,7 +6,7 @@ ghost use Rattle.x509_c.specs.FieldPaths.{TellsPath, object_by};
 use crate::status::{NOT_FOUND, OK, OUT_OF_MEMORY};
 use crate::text::put_text;
 use std::alloc::Global;
-use x509_paths::{Part, path_to};
+use x509_elements::{Part, path_to};
 
 /// What an object is, by its kind's number: 1 a certificate, 2 a list, 3 a request.
 pub(crate) fn object_by(kind: u32) -> Option<Part>

@@ -1,8 +1,8 @@
 //! The lenient rules that an object uses, and the values of its extensions that can't be read.
 
 ghost use Rattle.std.specs.Prelude.{◌≡◌, ℕ, length};
-ghost use Rattle.x509_leniencies.specs.Words.{leniency_word};
-ghost use Rattle.x509_leniencies.specs.declared.leniency.Leniency.{Leniency as Rule};
+ghost use Rattle.x509_elements.specs.Words.{leniency_word};
+ghost use Rattle.x509_elements.specs.declared.leniency.Leniency.{Leniency as Rule};
 ghost use Rattle.x509_c.specs.FieldPaths.{object_by};
 ghost use Rattle.x509_c.specs.Findings.{IsRefusedValueRow, IsUseRow, Refusal, ToldOfKind, refusal_of, refusals_in, rule_number, rule_word};
 ghost use Rattle.x509_c.specs.Findings.{use_of, uses_in};
@@ -13,8 +13,7 @@ use crate::row_writer::{HasRow, put_rows};
 use crate::status::{NOT_FOUND, OK, OUT_OF_MEMORY, status_of};
 use crate::text::put_text;
 use std::alloc::Global;
-use x509_dump::{RefusedValue, refused_values};
-use x509_leniencies::{Leniency, LenientUse, leniencies};
+use x509_elements::{Leniency, LenientUse, RefusedValue, leniencies, refused_values};
 
 /// A lenient rule that an object uses: `rtv_lenient_use` of rushtrivet.h.
 #[repr(C)]

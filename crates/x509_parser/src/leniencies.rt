@@ -1,3 +1,3 @@
 //! The lenient rules that an object uses, which a strict reader refuses.
 
-pub use x509_leniencies::{Leniency, LenientUse, StrictRefusal, leniencies};
+pub use x509_elements::{Leniency, LenientUse, StrictRefusal, leniencies};

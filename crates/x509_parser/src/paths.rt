@@ -1,3 +1,3 @@
 //! The names of the fields that lead to an octet, as that of a refusal.
 
-pub use x509_paths::{ExtensionValue, Part, path_to};
+pub use x509_elements::{ExtensionValue, Part, path_to};

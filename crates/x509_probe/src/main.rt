@@ -10,6 +10,7 @@ mod anything;
 mod calls;
 mod change;
 mod check;
+mod elements;
 mod lines;
 mod promises;
 mod rows;

@@ -1,11 +1,12 @@
 //! Answers of x509_probe that readers give, and calls on whole objects; and values in one plain text, as all answers show them. It may use what
-//! reads a structure and what is said of its octets, and knows no visitors, no validators and no rows.
+//! reads a structure, and knows no visitors, no validators, nothing that is said of elements, and no rows.
 #![tactic(auto)]
 
 mod objects;
 mod readers;
 mod show;
 
+pub use objects::number_in;
 pub use show::{
     Answer, Hasher, Look, Octets, Show, Text, both, look_at, look_in, put_all, put_result,
     read_both,

@@ -1,5 +1,5 @@
 pub mod Leads
 pub mod Labels
 pub mod Choices
+pub mod Seen
 pub mod ElementLines
-pub mod SectionLines

@@ -1,84 +1,52 @@
--- The elements of an object, named by the reader that it is seen by, and marks where that refuses it, and where values of extensions are refused.
-use Rattle.std.specs.Prelude.{ℕ, suc, ◌+◌, ◌-◌, ◌&&◌, nat_lt, nat_le, Bool, true, List, [], ◌∷◌, ◌++◌, Option, Some, None, Result, Ok, Err, codes, drop, flat_map, length, take}
-use Rattle.std.specs.Prelude.{if◌then◌else◌}
-use Rattle.x509_certs.specs.Certificate.{certificate}
-use Rattle.x509_der.specs.Plan.{Outcome}
+-- The elements of an object, a line each, with marks where a reader refuses it and where values of extensions are refused: lines for people, or
+-- parts of a page.
+use Rattle.std.specs.Prelude.{ℕ, suc, ◌+◌, ◌-◌, ◌&&◌, nat_lt, nat_le, Bool, List, [], ◌∷◌, ◌++◌, Result, Ok, Err, codes, drop, flat_map, length, take, if◌then◌else◌}
 use Rattle.x509_der.specs.Words.{refusal_word}
-use Rattle.x509_der.specs.declared.error.Err.{Err as Refusal}
 use Rattle.x509_der.specs.declared.error.Located.{Located}
-use Rattle.x509_dump.specs.Elements.{Line, elements_of, line_of}
-use Rattle.x509_dump.specs.declared.line.DumpLine.{DumpLine as RustLine}
-use Rattle.x509_dump.specs.Texts.{at_right, line_text}
+use Rattle.x509_elements.specs.Elements.{Line, elements_of, line_of}
+use Rattle.x509_elements.specs.RefusedValues.{refused_values}
+use Rattle.x509_elements.specs.declared.line.DumpLine.{DumpLine as RustLine}
+use Rattle.x509_elements.specs.declared.part.Part.{Part}
+use Rattle.x509_elements.specs.declared.refused.refused_value.RefusedValue.{RefusedValue}
 use Rattle.x509_fields.specs.Errors.{x509_word}
-use Rattle.x509_fields.specs.Fields.{Field}
 use Rattle.x509_fields.specs.declared.error.X509Error.{X509Error}
-use Rattle.x509_dump.specs.RefusedValues.{refused_values}
-use Rattle.x509_dump.specs.declared.refused.refused_value.RefusedValue.{RefusedValue}
-use Rattle.x509_lists.specs.CertificateList.{certificate_list}
-use Rattle.x509_paths.specs.declared.part.Part.{Part}
-use Rattle.x509_paths.specs.declared.part.Part.TheVariants as parts
-use Rattle.x509_report.specs.declared.dumps.View.{View}
-use Rattle.x509_report.specs.declared.dumps.View.TheVariants as views
-use Rattle.x509_report_objects.specs.Objects.{refused_at}
-use Rattle.x509_report_objects.specs.Places.{Wishes}
-use Rattle.x509_requests.specs.Request.{certification_request}
+use Rattle.x509_report_lines.specs.PageElements.{closings, element_page, mark_page, open_behind}
+use Rattle.x509_report_lines.specs.PageOctets.{octets_page}
+use Rattle.x509_report_lines.specs.Texts.{at_right, line_text}
+use Rattle.x509_report.specs.Views.{part_of, part_word}
+use Rattle.x509_report.specs.declared.options.Form.{Form}
+use Rattle.x509_report.specs.declared.options.Form.TheVariants as forms
+use Rattle.x509_report.specs.declared.views.View.{View}
+use Rattle.x509_report.specs.declared.views.View.TheVariants as views
 
--- why a reader refuses the octets, and at which of them; none where it takes them
-abbrev pub refusal_by : {A : Type 0} → Field A → List ℕ → Outcome (Refusal X509Error) A → Option (Located X509Error)
-refusal_by field octets (Ok x) = None
-refusal_by field octets (Err e) = Some (record { why = e; at = refused_at field octets })
+-- ---- marks
 
-abbrev pub refusal_of : {A : Type 0} → Field A → List ℕ → Option (Located X509Error)
-refusal_of field octets = refusal_by field octets (field.read octets)
+-- for people a mark is a line of its own: the octet, and what is wrong there
+abbrev pub mark_line : ℕ → List ℕ → List ℕ
+mark_line at words = at_right 5 at ++ (codes ":^ " ++ (words ++ codes "\n"))
 
--- the first reader that takes the octets, and else the one that refuses them at the furthest octet, the first of such
-abbrev pub seen_by : View → Part → Option (Located X509Error) → View
-seen_by (views.Taken p) part refusal = views.Taken p
-seen_by views.Nothing part None = views.Taken part
-seen_by views.Nothing part (Some e) = views.Refused part e
-seen_by (views.Refused p first) part None = views.Taken part
-seen_by (views.Refused p first) part (Some e) = if nat_lt first.at e.at then views.Refused part e else views.Refused p first
+abbrev pub mark : Form → ℕ → List ℕ → List ℕ
+mark forms.Html at words = mark_page at words
+mark forms.Json at words = mark_line at words
+mark forms.Text at words = mark_line at words
 
-abbrev pub seen_where : Bool → View → Part → Option (Located X509Error) → View
-seen_where wanted view part refusal = if wanted then seen_by view part refusal else view
-
-unfoldable pub view_of : Wishes → List ℕ → View
-view_of w octets =
-    seen_where w.requests (seen_where w.lists (seen_where w.certificates views.Nothing
-    parts.Certificate (refusal_of (certificate true) octets))
-    parts.List (refusal_of certificate_list octets))
-    parts.Request (refusal_of certification_request octets)
-
--- what elements are named by
-abbrev pub part_of : View → Part
-part_of views.Nothing = parts.Whole
-part_of (views.Refused part e) = part
-part_of (views.Taken part) = part
-
-abbrev pub part_word : Part → List ℕ
-part_word parts.Certificate = codes "certificate"
-part_word parts.List = codes "list"
-part_word parts.Request = codes "request"
-part_word _ = codes "object"
-
--- a line of its own: the octet, and why it is refused there
-abbrev pub mark_text : Part → Located X509Error → List ℕ
-mark_text part e = at_right 5 e.at ++ (codes ":^ no " ++ (part_word part ++ (codes ": " ++ (refusal_word x509_word e.why ++ codes "\n"))))
+abbrev pub refusal_words : Part → Located X509Error → List ℕ
+refusal_words part e = codes "no " ++ (part_word part ++ (codes ": " ++ refusal_word x509_word e.why))
 
 abbrev pub holds : Line → ℕ → Bool
 holds l at = nat_le l.offset at && nat_lt (at - l.offset) (length l.octets)
 
 -- below the line that holds the octet
-abbrev pub mark_in : View → Line → List ℕ
-mark_in (views.Refused part e) l = if holds l e.at then mark_text part e else []
-mark_in views.Nothing l = []
-mark_in (views.Taken part) l = []
+abbrev pub mark_in : Form → View → Line → List ℕ
+mark_in form (views.Refused part e) l = if holds l e.at then mark form e.at (refusal_words part e) else []
+mark_in form views.Nothing l = []
+mark_in form (views.Taken part) l = []
 
 -- behind all lines, where none holds it
-abbrev pub mark_behind : View → List ℕ → List ℕ
-mark_behind (views.Refused part e) octets = if nat_le (length octets) e.at then mark_text part e else []
-mark_behind views.Nothing octets = []
-mark_behind (views.Taken part) octets = []
+abbrev pub mark_behind : Form → View → List ℕ → List ℕ
+mark_behind form (views.Refused part e) octets = if nat_le (length octets) e.at then mark form e.at (refusal_words part e) else []
+mark_behind form views.Nothing octets = []
+mark_behind form (views.Taken part) octets = []
 
 -- ---- values of extensions that can't be read
 
@@ -86,11 +54,11 @@ mark_behind (views.Taken part) octets = []
 abbrev pub held : RefusedValue → ℕ
 held v = if nat_lt (v.at - v.value_at) v.value_size then v.at else v.at - 1
 
-abbrev pub value_mark : RefusedValue → List ℕ
-value_mark v = at_right 5 v.at ++ (codes ":^ no extension value: " ++ (refusal_word x509_word v.why ++ codes "\n"))
+abbrev pub value_words : RefusedValue → List ℕ
+value_words v = codes "no extension value: " ++ refusal_word x509_word v.why
 
-abbrev pub value_marks : List RefusedValue → List ℕ
-value_marks vs = flat_map value_mark vs
+abbrev pub value_marks : Form → List RefusedValue → List ℕ
+value_marks form vs = flat_map (λ v. mark form v.at (value_words v)) vs
 
 -- how many of them, from the first on, are marked before an octet
 abbrev pub count_before : ℕ → List RefusedValue → ℕ
@@ -109,28 +77,65 @@ values_behind l vs = drop (count_in l vs) vs
 
 -- ---- lines with their marks
 
-abbrev pub marked : View → List RefusedValue → Line → List ℕ
-marked view vs l = line_text l ++ (mark_in view l ++ value_marks (values_in l vs))
+-- the line of an element, where so many parts of a page are open ..
+abbrev pub element_line : Form → ℕ → Line → List ℕ
+element_line forms.Html opened l = element_page opened l
+element_line forms.Json opened l = line_text l
+element_line forms.Text opened l = line_text l
 
--- behind the last line
-unfoldable pub marks_behind : View → List ℕ → List RefusedValue → List ℕ
-marks_behind view octets vs = value_marks vs ++ mark_behind view octets
+-- .. and how many are open behind it
+abbrev pub open_told : Form → Line → ℕ
+open_told forms.Html l = open_behind l
+open_told forms.Json l = 0
+open_told forms.Text l = 0
 
-unfoldable pub marked_lines : View → List ℕ → List RefusedValue → List Line → List (List ℕ)
-marked_lines view octets vs [] = marks_behind view octets vs ∷ []
-marked_lines view octets vs (l ∷ ls) = marked view vs l ∷ marked_lines view octets (values_behind l vs) ls
+abbrev pub marked : Form → View → List RefusedValue → ℕ → Line → List ℕ
+marked form view vs opened l = element_line form opened l ++ (mark_in form view l ++ value_marks form (values_in l vs))
 
-abbrev pub refused_in : View → List ℕ → List RefusedValue
-refused_in view octets = refused_values (part_of view) octets
+-- behind the last line the marks that are left
+unfoldable pub marks_behind : Form → View → List ℕ → List RefusedValue → List ℕ
+marks_behind form view octets vs = value_marks form vs ++ mark_behind form view octets
 
--- what is told of a line that was found, and which values are left behind it; nothing where memory was refused
-abbrev pub found_lines : {E : Type 0} → View → List RefusedValue → Result RustLine E → List (List ℕ)
-found_lines view vs (Ok line) = marked view vs (line_of line) ∷ []
-found_lines view vs (Err e) = []
+-- in a page all parts end before them, and the octets stand behind them
+unfoldable pub section_end : View → List ℕ → List RefusedValue → ℕ → List ℕ
+section_end view octets vs opened = closings opened ++ (marks_behind forms.Html view octets vs ++ (octets_page octets ++ codes "</section>\n"))
+
+abbrev pub end_told : Form → View → List ℕ → List RefusedValue → ℕ → List ℕ
+end_told forms.Html view octets vs opened = section_end view octets vs opened
+end_told forms.Json view octets vs opened = marks_behind forms.Json view octets vs
+end_told forms.Text view octets vs opened = marks_behind forms.Text view octets vs
+
+-- lines where so many parts are open, and what stands behind the last
+unfoldable pub marked_lines : Form → View → List ℕ → List RefusedValue → ℕ → List Line → List (List ℕ)
+marked_lines form view octets vs opened [] = end_told form view octets vs opened ∷ []
+marked_lines form view octets vs opened (l ∷ ls) = marked form view vs opened l ∷ marked_lines form view octets (values_behind l vs) (open_told form l) ls
+
+-- what is told of a line that was found, how many parts are open behind it, and how many values are marked there; nothing where memory was refused
+abbrev pub found_lines : {E : Type 0} → Form → View → List RefusedValue → ℕ → Result RustLine E → List (List ℕ)
+found_lines form view vs opened (Ok line) = marked form view vs opened (line_of line) ∷ []
+found_lines form view vs opened (Err e) = []
+
+abbrev pub open_found : {E : Type 0} → Form → Result RustLine E → ℕ
+open_found form (Ok line) = open_told form (line_of line)
+open_found form (Err e) = 0
 
 abbrev pub count_found : {E : Type 0} → List RefusedValue → Result RustLine E → ℕ
 count_found vs (Ok line) = count_in (line_of line) vs
 count_found vs (Err e) = 0
 
-unfoldable pub dump_lines : View → List ℕ → List (List ℕ)
-dump_lines view octets = marked_lines view octets (refused_in view octets) (elements_of (part_of view) octets)
+-- ---- all of them
+
+abbrev pub refused_in : View → List ℕ → List RefusedValue
+refused_in view octets = refused_values (part_of view) octets
+
+unfoldable pub dump_lines : Form → View → List ℕ → List (List ℕ)
+dump_lines form view octets = marked_lines form view octets (refused_in view octets) 0 (elements_of (part_of view) octets)
+
+-- in a page they are a section
+unfoldable pub section_page : View → List ℕ → List (List ℕ)
+section_page view octets = codes "<section>\n" ∷ dump_lines forms.Html view octets
+
+abbrev pub dump_told : Form → View → List ℕ → List (List ℕ)
+dump_told forms.Html view octets = section_page view octets
+dump_told forms.Json view octets = dump_lines forms.Json view octets
+dump_told forms.Text view octets = dump_lines forms.Text view octets

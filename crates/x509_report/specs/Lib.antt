@@ -1,7 +1,7 @@
 pub mod Texts
 pub mod Told
+pub mod Views
 pub mod Dumps
-pub mod Sections
 pub mod Objects
 pub mod Labels
 pub mod Files

@@ -15,8 +15,8 @@ use Rattle.x509_report_objects.specs.Objects.{object_told}
 use Rattle.x509_report_objects.specs.Places.{Found, Wishes}
 use Rattle.x509_report_objects.specs.declared.kind.Kind.{Kind}
 use Rattle.x509_report_objects.specs.declared.kind.Kind.TheVariants as kinds
-use Rattle.x509_report.specs.Dumps.{view_of}
-use Rattle.x509_report.specs.Sections.{dump_told}
+use Rattle.x509_report.specs.Dumps.{dump_told}
+use Rattle.x509_report.specs.Views.{view_of}
 use Rattle.x509_report.specs.Texts.{object_said, said}
 use Rattle.x509_report.specs.Told.{Told}
 use Rattle.x509_report.specs.declared.options.Asked.{Asked}

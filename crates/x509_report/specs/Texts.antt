@@ -5,7 +5,7 @@ use Rattle.json.specs.Print.{print}
 use Rattle.json.specs.Token.{Token}
 use Rattle.x509_report_lines.specs.Lines.{text_of}
 use Rattle.x509_report_lines.specs.Says.{written}
-use Rattle.x509_dump.specs.PageReports.{report_page}
+use Rattle.x509_report_lines.specs.PageReports.{report_page}
 use Rattle.x509_report.specs.declared.options.Form.{Form}
 use Rattle.x509_report.specs.declared.options.Form.TheVariants as forms
 

@@ -1,202 +1,99 @@
-//! The elements of an object, a line each.
+//! The elements of an object, a line each, with marks where a reader refuses it and where values of extensions are refused: for people, or as a
+//! part of a page.
 
-ghost use Rattle.std.specs.Prelude.{◌≡◌, ◌++◌, ◌+◌, ◌≤◌, drop, length, nat_lt, IfOk, IsOk, OnOk, string_bytes, true};
-ghost use Rattle.x509_certs.specs.Certificate.{certificate};
-ghost use Rattle.x509_lists.specs.CertificateList.{certificate_list};
-ghost use Rattle.x509_requests.specs.Request.{certification_request};
-ghost use Rattle.x509_dump.specs.Elements.{elements_of, line_of};
-ghost use Rattle.x509_dump.specs.Texts.{line_text};
+ghost use Rattle.std.specs.Prelude.{◌≡◌, ◌++◌, ◌+◌, ◌≤◌, length, nat_lt, IfOk, IsOk, OnOk, string_bytes};
+ghost use Rattle.x509_elements.specs.Elements.{elements_of, line_of};
 ghost use Rattle.x509_report_objects.specs.Attempts.{wishes_of};
-ghost use Rattle.x509_report.specs.Dumps.{count_found, count_in, dump_lines, found_lines, held, holds, mark_behind, mark_in, mark_text};
-ghost use Rattle.x509_report.specs.Dumps.{marked_lines, marks_behind, part_of, part_word, value_mark, value_marks};
-ghost use Rattle.x509_report.specs.Dumps.{refusal_of, seen_by, seen_where, view_of};
+ghost use Rattle.x509_report.specs.Dumps.{count_found, count_in, dump_lines, dump_told, element_line, end_told, found_lines, held, holds, mark, mark_behind};
+ghost use Rattle.x509_report.specs.Dumps.{mark_in, marked_lines, marks_behind, open_found, open_told, refusal_words, section_end, section_page};
+ghost use Rattle.x509_report.specs.Dumps.{value_marks, value_words};
 ghost use Rattle.x509_report.specs.Told.{Prints, Tells};
+ghost use Rattle.x509_report.specs.Views.{part_of, view_of};
 
+use crate::options::Form;
 use crate::printer::Printer;
 use crate::stop::Stop;
+use crate::views::{View, part_of, part_word, view_of};
 use std::alloc::{AllocError, Global};
 use std::io::Write;
-use x509_certs::{parse_x509_certificate_located, parse_x509_certificate_marked};
 use x509_der::Located;
-use x509_dump::{DumpLine, RefusedValue, dump, push_line, refused_values};
+use x509_elements::{DumpLine, Part, RefusedValue, behind, dump, refused_values};
 use x509_fields::X509Error;
-use x509_lists::{parse_x509_crl_located, parse_x509_crl_marked};
-use x509_paths::Part;
+use x509_report_lines::html::{push_closings, push_element, push_mark, push_octets};
+use x509_report_lines::push_line;
 use x509_report_objects::Wishes;
-use x509_requests::{parse_x509_csr_located, parse_x509_csr_marked};
 
-/// Which of its readers an object is seen by.
-#[derive(Clone, Copy, Debug)]
-pub enum View {
-    /// None was asked.
-    Nothing,
-    /// All that were asked refuse it, this one at the furthest octet.
-    Refused(Part, Located<X509Error>),
-    /// This is the first that takes it.
-    Taken(Part),
-}
-
-/// Why the octets are no certificate; none where they are one.
-fn certificate_refusal(alloc: Global, octets: &[u8]) -> Result<Option<Located<X509Error>>, Stop>
-    ensures { IfOk result (λ r. r ≡ refusal_of (certificate true) octets.now) }
+/// Why a reader refuses, in words.
+fn refusal_words(
+    alloc: Global,
+    part: Part,
+    refusal: &Located<X509Error>,
+) -> Result<String, AllocError>
+    ensures { IfOk result (λ text. string_bytes text ≡ refusal_words part refusal.now) }
 {
-    match parse_x509_certificate_marked(alloc, octets) {
-        Ok(_) => Ok(None),
-        Err(refusal) => if refusal.is_out_of_memory() {
-            Err(Stop::Memory)
-        } else {
-            match parse_x509_certificate_located(alloc, octets) {
-                Err(located) if !located.why.is_out_of_memory() => Ok(Some(located)),
-                _ => Err(Stop::Memory),
-            }
-        },
-    }
-}
-
-/// Why they are no list of revoked certificates; none where they are one.
-fn list_refusal(alloc: Global, octets: &[u8]) -> Result<Option<Located<X509Error>>, Stop>
-    ensures { IfOk result (λ r. r ≡ refusal_of certificate_list octets.now) }
-{
-    match parse_x509_crl_marked(alloc, octets) {
-        Ok(_) => Ok(None),
-        Err(refusal) => if refusal.is_out_of_memory() {
-            Err(Stop::Memory)
-        } else {
-            match parse_x509_crl_located(alloc, octets) {
-                Err(located) if !located.why.is_out_of_memory() => Ok(Some(located)),
-                _ => Err(Stop::Memory),
-            }
-        },
-    }
-}
-
-/// Why they are no certification request; none where they are one.
-fn request_refusal(alloc: Global, octets: &[u8]) -> Result<Option<Located<X509Error>>, Stop>
-    ensures { IfOk result (λ r. r ≡ refusal_of certification_request octets.now) }
-{
-    match parse_x509_csr_marked(alloc, octets) {
-        Ok(_) => Ok(None),
-        Err(refusal) => if refusal.is_out_of_memory() {
-            Err(Stop::Memory)
-        } else {
-            match parse_x509_csr_located(alloc, octets) {
-                Err(located) if !located.why.is_out_of_memory() => Ok(Some(located)),
-                _ => Err(Stop::Memory),
-            }
-        },
-    }
-}
-
-/// The view behind what one more reader says.
-fn seen_by(view: View, part: Part, refusal: Option<Located<X509Error>>) -> View
-    ensures { result ≡ seen_by view part refusal }
-{
-    match view {
-        View::Taken(_) => view,
-        View::Nothing => match refusal {
-            None => View::Taken(part),
-            Some(refusal) => View::Refused(part, refusal),
-        },
-        View::Refused(_, first) => match refusal {
-            None => View::Taken(part),
-            Some(refusal) => if first.at < refusal.at {
-                View::Refused(part, refusal)
-            } else {
-                view
-            },
-        },
-    }
-}
-
-/// The view behind the reader of certificates, where that is wanted.
-fn as_certificate(alloc: Global, wanted: bool, view: View, octets: &[u8]) -> Result<View, Stop>
-    ensures { IfOk result (λ v. v ≡ seen_where wanted view Part.Certificate (refusal_of (certificate true) octets.now)) }
-{
-    if !wanted {
-        return Ok(view);
-    }
-    let refusal = certificate_refusal(alloc, octets)?;
-    Ok(seen_by(view, Part::Certificate, refusal))
-}
-
-/// The view behind the reader of lists, where that is wanted.
-fn as_list(alloc: Global, wanted: bool, view: View, octets: &[u8]) -> Result<View, Stop>
-    ensures { IfOk result (λ v. v ≡ seen_where wanted view Part.List (refusal_of certificate_list octets.now)) }
-{
-    if !wanted {
-        return Ok(view);
-    }
-    let refusal = list_refusal(alloc, octets)?;
-    Ok(seen_by(view, Part::List, refusal))
-}
-
-/// The view behind the reader of requests, where that is wanted.
-fn as_request(alloc: Global, wanted: bool, view: View, octets: &[u8]) -> Result<View, Stop>
-    ensures { IfOk result (λ v. v ≡ seen_where wanted view Part.Request (refusal_of certification_request octets.now)) }
-{
-    if !wanted {
-        return Ok(view);
-    }
-    let refusal = request_refusal(alloc, octets)?;
-    Ok(seen_by(view, Part::Request, refusal))
-}
-
-/// Which of the readers that are wanted an object is seen by.
-#[tactic(auto, unfolding(crate::specs::Dumps::view_of))]
-pub fn view_of(alloc: Global, wishes: &Wishes, octets: &[u8]) -> Result<View, Stop>
-    ensures { IfOk result (λ view. view ≡ view_of (wishes_of wishes.now) octets.now) }
-{
-    let view = as_certificate(alloc, wishes.certificates, View::Nothing, octets)?;
-    let view = as_list(alloc, wishes.lists, view, octets)?;
-    as_request(alloc, wishes.requests, view, octets)
-}
-
-/// What the names of elements are those of.
-pub fn part_of(view: &View) -> Part
-    ensures { result ≡ part_of view.now }
-{
-    match view {
-        View::Nothing => Part::Whole,
-        View::Refused(part, _) | View::Taken(part) => *part,
-    }
-}
-
-/// What a reader reads, in a word.
-pub fn part_word(part: Part) -> &'static str
-    ensures { result.now ≡ part_word part }
-{
-    match part {
-        Part::Certificate => "certificate",
-        Part::List => "list",
-        Part::Request => "request",
-        _ => "object",
-    }
-}
-
-/// Adds a line that marks where a reader refuses, below the line that holds the octet.
-fn push_mark(text: &mut String, part: Part, refusal: &Located<X509Error>) -> Result<(), AllocError>
-    ensures { OnOk result (string_bytes text.new ≡ string_bytes text.old ++ mark_text part refusal.now) }
-{
-    let at = refusal.at;
     let kind = part_word(part);
     let word = refusal.why.word();
-    write!(text, "{at:>5}:^ no {kind}: {word}\n")
+    format!(in alloc; "no {kind}: {word}")
+}
+
+/// Why a value is refused, in words.
+fn value_words(alloc: Global, value: &RefusedValue) -> Result<String, AllocError>
+    ensures { IfOk result (λ text. string_bytes text ≡ value_words value.now) }
+{
+    let word = value.why.word();
+    format!(in alloc; "no extension value: {word}")
+}
+
+/// Adds a mark at an octet, with these words: in a page an element, else a line of its own.
+fn push_mark_at(
+    alloc: Global,
+    form: Form,
+    text: &mut String,
+    at: usize,
+    words: &str,
+) -> Result<(), AllocError>
+    ensures { OnOk result (string_bytes text.new ≡ string_bytes text.old ++ mark form at words.now) }
+{
+    match form {
+        Form::Html => push_mark(alloc, text, at, words),
+        Form::Json | Form::Text => write!(text, "{at:>5}:^ {words}\n"),
+    }
+}
+
+/// Adds the mark of a reader's refusal.
+fn push_refusal(
+    alloc: Global,
+    form: Form,
+    text: &mut String,
+    part: Part,
+    refusal: &Located<X509Error>,
+) -> Result<(), AllocError>
+    ensures { OnOk result (string_bytes text.new ≡ string_bytes text.old ++ mark form refusal.now.at (refusal_words part refusal.now)) }
+{
+    let words = refusal_words(alloc, part, refusal)?;
+    push_mark_at(alloc, form, text, refusal.at, words.as_str())
 }
 
 /// Whether a line holds an octet.
-pub fn holds(line: &DumpLine<'_>, at: usize) -> bool
+fn holds(line: &DumpLine<'_>, at: usize) -> bool
     ensures { result ≡ holds (line_of line.now) at }
 {
     line.offset <= at && at - line.offset < line.octets.len()
 }
 
-/// Adds the mark, where the line holds the octet.
-fn push_mark_in(text: &mut String, view: &View, line: &DumpLine<'_>) -> Result<(), AllocError>
-    ensures { OnOk result (string_bytes text.new ≡ string_bytes text.old ++ mark_in view.now (line_of line.now)) }
+/// Adds the mark of the reader's refusal, where the line holds the octet.
+fn push_mark_in(
+    alloc: Global,
+    form: Form,
+    text: &mut String,
+    view: &View,
+    line: &DumpLine<'_>,
+) -> Result<(), AllocError>
+    ensures { OnOk result (string_bytes text.new ≡ string_bytes text.old ++ mark_in form view.now (line_of line.now)) }
 {
     match view {
         View::Refused(part, refusal) => if holds(line, refusal.at) {
-            push_mark(text, *part, refusal)
+            push_refusal(alloc, form, text, *part, refusal)
         } else {
             Ok(())
         },
@@ -204,13 +101,19 @@ fn push_mark_in(text: &mut String, view: &View, line: &DumpLine<'_>) -> Result<(
     }
 }
 
-/// The mark behind the last line, where the octet is none of the object.
-fn push_mark_behind(text: &mut String, view: &View, octets: &[u8]) -> Result<(), AllocError>
-    ensures { OnOk result (string_bytes text.new ≡ string_bytes text.old ++ mark_behind view.now octets.now) }
+/// Adds that mark behind the last line, where the octet is none of the object.
+fn push_mark_behind(
+    alloc: Global,
+    form: Form,
+    text: &mut String,
+    view: &View,
+    octets: &[u8],
+) -> Result<(), AllocError>
+    ensures { OnOk result (string_bytes text.new ≡ string_bytes text.old ++ mark_behind form view.now octets.now) }
 {
     match view {
         View::Refused(part, refusal) => if octets.len() <= refusal.at {
-            push_mark(text, *part, refusal)
+            push_refusal(alloc, form, text, *part, refusal)
         } else {
             Ok(())
         },
@@ -237,7 +140,7 @@ fn is_before(octet: usize, line: &DumpLine<'_>) -> bool
 }
 
 /// How many of the values, from the first on, are marked below a line.
-pub fn count_in(values: &[RefusedValue], line: &DumpLine<'_>) -> usize
+fn count_in(values: &[RefusedValue], line: &DumpLine<'_>) -> usize
     ensures count { result ≡ count_in (line_of line.now) values.now }
     ensures within { result ≤ length values.now }
 {
@@ -251,119 +154,219 @@ pub fn count_in(values: &[RefusedValue], line: &DumpLine<'_>) -> usize
     count
 }
 
-/// The values behind the first ones.
-pub fn behind(values: &[RefusedValue], count: usize) -> &[RefusedValue]
-    ensures { result.now ≡ drop count values.now }
+/// Adds the mark of a value that is refused.
+fn push_value_mark(
+    alloc: Global,
+    form: Form,
+    text: &mut String,
+    value: &RefusedValue,
+) -> Result<(), AllocError>
+    ensures { OnOk result (string_bytes text.new ≡ string_bytes text.old ++ mark form value.now.at (value_words value.now)) }
 {
-    if count <= values.len() {
-        &values[count..]
-    } else {
-        &[]
-    }
+    let words = value_words(alloc, value)?;
+    push_mark_at(alloc, form, text, value.at, words.as_str())
 }
 
-/// Adds a line that marks where a value is refused.
-fn push_value_mark(text: &mut String, value: &RefusedValue) -> Result<(), AllocError>
-    ensures { OnOk result (string_bytes text.new ≡ string_bytes text.old ++ value_mark value.now) }
-{
-    let at = value.at;
-    let word = value.why.word();
-    write!(text, "{at:>5}:^ no extension value: {word}\n")
-}
-
-/// Adds a line for each value.
-fn push_value_marks(text: &mut String, values: &[RefusedValue]) -> Result<(), AllocError>
-    ensures { OnOk result (string_bytes text.new ≡ string_bytes text.old ++ value_marks values.now) }
+/// Adds a mark for each value.
+fn push_value_marks(
+    alloc: Global,
+    form: Form,
+    text: &mut String,
+    values: &[RefusedValue],
+) -> Result<(), AllocError>
+    ensures { OnOk result (string_bytes text.new ≡ string_bytes text.old ++ value_marks form values.now) }
 {
     for value in values {
-        push_value_mark(text, value)?;
+        push_value_mark(alloc, form, text, value)?;
     }
     Ok(())
 }
 
-/// A line, and below it the mark of the object and those of values.
-#[tactic(auto, using(crate::proofs::ElementLines::texts))]
-fn text_of(
+/// Adds the line of an element, where so many parts of a page are open. Tells how many are open behind it.
+fn push_told(
     alloc: Global,
+    form: Form,
+    text: &mut String,
+    opened: usize,
+    line: &DumpLine<'_>,
+) -> Result<usize, AllocError>
+    ensures text { OnOk result (string_bytes text.new ≡ string_bytes text.old ++ element_line form opened (line_of line.now)) }
+    ensures opened { IfOk result (λ n. n ≡ open_told form (line_of line.now)) }
+{
+    match form {
+        Form::Html => push_element(alloc, text, opened, line),
+        Form::Json | Form::Text => {
+            push_line(alloc, text, line)?;
+            Ok(0)
+        }
+    }
+}
+
+/// The line of an element, and below it the mark of the object and those of values. Tells how many parts are open behind it.
+#[tactic(auto, using(crate::proofs::ElementLines::texts))]
+fn line_text(
+    alloc: Global,
+    form: Form,
     view: &View,
     values: &[RefusedValue],
+    opened: usize,
     line: &DumpLine<'_>,
-) -> Result<String, AllocError>
-    ensures { IfOk result (λ text. string_bytes text ≡ line_text (line_of line.now) ++ (mark_in view.now (line_of line.now) ++ value_marks values.now)) }
+) -> Result<(String, usize), AllocError>
+    ensures text { IfOk result (λ r. string_bytes r.0
+        ≡ element_line form opened (line_of line.now) ++ (mark_in form view.now (line_of line.now) ++ value_marks form values.now)) }
+    ensures opened { IfOk result (λ r. r.1 ≡ open_told form (line_of line.now)) }
 {
     let mut text = String::new(alloc);
-    push_line(alloc, &mut text, line)?;
-    push_mark_in(&mut text, view, line)?;
-    push_value_marks(&mut text, values)?;
+    let open = push_told(alloc, form, &mut text, opened, line)?;
+    push_mark_in(alloc, form, &mut text, view, line)?;
+    push_value_marks(alloc, form, &mut text, values)?;
+    Ok((text, open))
+}
+
+/// Adds the marks behind the last line: of values that are left, and of the object where the octet is none of it.
+#[tactic(auto, unfolding(crate::specs::Dumps::marks_behind))]
+fn push_marks_behind(
+    alloc: Global,
+    form: Form,
+    text: &mut String,
+    view: &View,
+    octets: &[u8],
+    values: &[RefusedValue],
+) -> Result<(), AllocError>
+    ensures { OnOk result (string_bytes text.new ≡ string_bytes text.old ++ marks_behind form view.now octets.now values.now) }
+{
+    push_value_marks(alloc, form, text, values)?;
+    push_mark_behind(alloc, form, text, view, octets)
+}
+
+/// Adds what stands behind the last line of a page, where so many parts are open and these values are left.
+#[tactic(auto, unfolding(crate::specs::Dumps::section_end))]
+fn push_end(
+    alloc: Global,
+    page: &mut String,
+    view: &View,
+    octets: &[u8],
+    values: &[RefusedValue],
+    opened: usize,
+) -> Result<(), AllocError>
+    ensures { OnOk result (string_bytes page.new ≡ string_bytes page.old ++ section_end view.now octets.now values.now opened) }
+{
+    push_closings(page, opened)?;
+    push_marks_behind(alloc, Form::Html, page, view, octets, values)?;
+    push_octets(page, octets)?;
+    page.push_str("</section>\n")?;
+    Ok(())
+}
+
+/// What stands behind the last line.
+fn end_text(
+    alloc: Global,
+    form: Form,
+    view: &View,
+    octets: &[u8],
+    values: &[RefusedValue],
+    opened: usize,
+) -> Result<String, AllocError>
+    ensures { IfOk result (λ text. string_bytes text ≡ end_told form view.now octets.now values.now opened) }
+{
+    let mut text = String::new(alloc);
+    match form {
+        Form::Html => push_end(alloc, &mut text, view, octets, values, opened)?,
+        Form::Json | Form::Text => {
+            push_marks_behind(alloc, form, &mut text, view, octets, values)?;
+        }
+    }
     Ok(text)
 }
 
-/// A line, where memory was there for it, with the marks of those of the values that stand below it. Tells how many these are.
+/// A line that was found, where so many parts are open, with the marks of those of the values that stand below it. Tells how many parts are
+/// open behind it, and how many values these are.
 fn report_found<W: Write>(
     alloc: Global,
+    form: Form,
     printer: &mut Printer<W>,
     view: &View,
     values: &[RefusedValue],
+    opened: usize,
     found: Result<DumpLine<'_>, AllocError>,
-) -> Result<usize, Stop>
-    ensures lines { Tells result (W.contents printer.old.out) (W.contents printer.new.out) (found_lines view.now values.now found.entry) }
+) -> Result<(usize, usize), Stop>
+    ensures lines { Tells result (W.contents printer.old.out) (W.contents printer.new.out) (found_lines form view.now values.now opened found.entry) }
     ensures found { OnOk result (IsOk found.entry) }
-    ensures count { IfOk result (λ n. n ≡ count_found values.now found.entry) }
-    ensures within { IfOk result (λ n. n ≤ length values.now) }
+    ensures opened { IfOk result (λ r. r.0 ≡ open_found form found.entry) }
+    ensures count { IfOk result (λ r. r.1 ≡ count_found values.now found.entry) }
+    ensures within { IfOk result (λ r. r.1 ≤ length values.now) }
     ensures form { printer.new.form ≡ printer.old.form }
 {
     let line = found?;
     let count = count_in(values, &line);
-    let text = text_of(alloc, view, &values[..count], &line)?;
+    let (text, open) = line_text(alloc, form, view, &values[..count], opened, &line)?;
     printer.put_text(text.as_str())?;
-    Ok(count)
+    Ok((open, count))
 }
 
-/// The marks behind the last line: of values that are left, and of the object where the octet is none of it.
-#[tactic(auto, unfolding(crate::specs::Dumps::marks_behind))]
-fn text_behind(
-    alloc: Global,
-    view: &View,
-    values: &[RefusedValue],
-    octets: &[u8],
-) -> Result<String, AllocError>
-    ensures { IfOk result (λ text. string_bytes text ≡ marks_behind view.now octets.now values.now) }
-{
-    let mut text = String::new(alloc);
-    push_value_marks(&mut text, values)?;
-    push_mark_behind(&mut text, view, octets)?;
-    Ok(text)
-}
-
-/// The lines of the elements, and the marks behind the last.
+/// The lines of the elements, and what stands behind the last.
 fn report_lines<W: Write>(
     alloc: Global,
+    form: Form,
     printer: &mut Printer<W>,
     view: &View,
     values: &[RefusedValue],
     octets: &[u8],
 ) -> Result<(), Stop>
     ensures { Prints W.contents printer.old printer.new
-        (marked_lines view.now octets.now values.now (elements_of (part_of view.now) octets.now)) result }
+        (marked_lines form view.now octets.now values.now 0 (elements_of (part_of view.now) octets.now)) result }
 {
     let mut left = values;
+    let mut opened = 0;
     for found in dump(alloc, part_of(view), octets) {
-        let count = report_found(alloc, printer, view, left, found)?;
+        let (open, count) = report_found(alloc, form, printer, view, left, opened, found)?;
         left = behind(left, count);
+        opened = open;
     }
-    let behind = text_behind(alloc, view, left, octets)?;
-    printer.put_text(behind.as_str())
+    let text = end_text(alloc, form, view, octets, left, opened)?;
+    printer.put_text(text.as_str())
 }
 
 /// The elements of an object as it is seen.
-pub fn report_view<W: Write>(
+fn report_view<W: Write>(
+    alloc: Global,
+    form: Form,
+    printer: &mut Printer<W>,
+    view: &View,
+    octets: &[u8],
+) -> Result<(), Stop>
+    ensures { Prints W.contents printer.old printer.new (dump_lines form view.now octets.now) result }
+{
+    let values = refused_values(alloc, part_of(view), octets)?;
+    report_lines(alloc, form, printer, view, values.as_slice(), octets)
+}
+
+/// The same, as a section of a page.
+fn report_section<W: Write>(
     alloc: Global,
     printer: &mut Printer<W>,
     view: &View,
     octets: &[u8],
 ) -> Result<(), Stop>
-    ensures { Prints W.contents printer.old printer.new (dump_lines view.now octets.now) result }
+    ensures { Prints W.contents printer.old printer.new (section_page view.now octets.now) result }
 {
-    let values = refused_values(alloc, part_of(view), octets)?;
-    report_lines(alloc, printer, view, values.as_slice(), octets)
+    printer.put_text("<section>\n")?;
+    report_view(alloc, Form::Html, printer, view, octets)
+}
+
+/// The elements of an object, named by the reader that it is seen by, and a mark where that refuses it.
+pub fn report_dump<W: Write>(
+    alloc: Global,
+    printer: &mut Printer<W>,
+    wishes: &Wishes,
+    octets: &[u8],
+) -> Result<(), Stop>
+    ensures { Prints W.contents printer.old printer.new (dump_told printer.old.form (view_of (wishes_of wishes.now) octets.now) octets.now) result }
+{
+    let view = view_of(alloc, wishes, octets)?;
+    let form = printer.form();
+    match form {
+        Form::Html => report_section(alloc, printer, &view, octets),
+        Form::Json | Form::Text => report_view(alloc, form, printer, &view, octets),
+    }
 }

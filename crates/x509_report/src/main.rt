@@ -9,8 +9,8 @@ mod options;
 mod printer;
 mod progress;
 mod reports;
-mod sections;
 mod stop;
+mod views;
 
 use crate::files::{read_all, report_file};
 use crate::options::{Options, parse_options};
@@ -22,7 +22,7 @@ use std::fs::File;
 use std::io::BufWriter;
 use std::process::ExitCode;
 use std::{env, io};
-use x509_dump::page::{FOOT, HEAD};
+use x509_report_lines::html::{FOOT, HEAD};
 
 /// Every object was taken.
 const TAKEN: u8 = 0;

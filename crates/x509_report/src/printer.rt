@@ -12,7 +12,7 @@ use crate::stop::Stop;
 use std::alloc::{AllocError, Global};
 use std::io::Write;
 use std::{io, mem, str};
-use x509_dump::page::report_of_json;
+use x509_report_lines::html::report_of_json;
 use x509_report_lines::{Line, lines_of_json};
 
 /// Where lines are written, and in what form. The memory of a line that was written is that of the next.

@@ -9,9 +9,9 @@ ghost use Rattle.x509_report.specs.Objects.{asks_of, dump_behind, entry_lines, f
 ghost use Rattle.x509_report.specs.Texts.{object_said, said};
 ghost use Rattle.x509_report.specs.Told.{Prints, PrintsTold, one};
 
+use crate::dumps::report_dump;
 use crate::options::Asked;
 use crate::printer::Printer;
-use crate::sections::report_dump;
 use crate::stop::Stop;
 use sha2::{Digest, Sha256};
 use std::alloc::Global;

@@ -3,3 +3,6 @@ pub mod Found
 pub mod Shown
 pub mod Split
 pub mod Written
+pub mod Joined
+pub mod Plain
+pub mod Markup

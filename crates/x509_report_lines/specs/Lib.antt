@@ -4,3 +4,9 @@ pub mod Escape
 pub mod Flags
 pub mod Lines
 pub mod Says
+pub mod Texts
+pub mod PageEscape
+pub mod PageReports
+pub mod PageElements
+pub mod PageOctets
+pub mod PageMarkup

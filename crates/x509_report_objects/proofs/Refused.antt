@@ -1,5 +1,5 @@
 -- A reader that tells the octet of its refusal tells that of the grammar.
-use Rattle.std.proofs.Common.{◌≡◌, ℕ, ◌+◌, List, Err, true, false, ap, ◌∙◌, arith}
+use Rattle.std.proofs.Common.{◌≡◌, ℕ, ◌+◌, List, Err, Bool, true, false, ap, ◌∙◌, arith}
 use Rattle.x509_der.specs.declared.error.Err.{Err as Refusal}
 use Rattle.x509_der.specs.declared.error.Located.{Located}
 use Rattle.x509_der.specs.Laws.{Agrees, IsBytes}
@@ -11,8 +11,8 @@ use Rattle.x509_fields.specs.Fields.{Field}
 use Rattle.x509_report_objects.specs.Attempts.{refused_of}
 use Rattle.x509_report_objects.specs.Objects.{Told, refused_at, refused_told}
 
-pub refused_where : {A X : Type 0} (view : X → List ℕ × A) (plan : Field A) (octets : List ℕ) (e : Located X509Error) → Agrees plan → IsBytes octets
-    → ReadsWhere is_x509_memory true view plan octets (Err e) → is_excused is_x509_memory true e.why ≡ false → (plan.read octets ≡ Err e.why) × (refused_at plan octets ≡ e.at)
+pub refused_where : {A X : Type 0} {takes_memory : Bool} (view : X → List ℕ × A) (plan : Field A) (octets : List ℕ) (e : Located X509Error) → Agrees plan → IsBytes octets
+    → ReadsWhere is_x509_memory takes_memory view plan octets (Err e) → is_excused is_x509_memory takes_memory e.why ≡ false → (plan.read octets ≡ Err e.why) × (refused_at plan octets ≡ e.at)
 refused_where view plan octets e agrees k reads other =
     let there = reads.located other in
     let left = there.0 in

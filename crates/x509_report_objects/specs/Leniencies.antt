@@ -1,9 +1,9 @@
 -- What a report says of the lenient rules that an object uses (docs/GRAMMAR.md).
 use Rattle.std.specs.Prelude.{ℕ, Bool, List, [], ◌∷◌, codes, take, Option, if◌then◌else◌}
 use Rattle.json.specs.Json.{Json, string}
-use Rattle.x509_leniencies.specs.Uses.{Use, leniencies}
-use Rattle.x509_leniencies.specs.Words.{leniency_word}
-use Rattle.x509_paths.specs.declared.part.Part.{Part}
+use Rattle.x509_elements.specs.Uses.{Use, leniencies}
+use Rattle.x509_elements.specs.Words.{leniency_word}
+use Rattle.x509_elements.specs.declared.part.Part.{Part}
 use Rattle.x509_report_lines.specs.Says.{count, list_of, optional, record_of}
 use Rattle.x509_report_objects.specs.RefusedValues.{path_in}
 

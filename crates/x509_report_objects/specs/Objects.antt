@@ -17,14 +17,14 @@ use Rattle.x509_lists.specs.TbsCertList.{TbsList}
 use Rattle.x509_requests.specs.Request.{certification_request}
 use Rattle.x509_requests.specs.RequestInfo.{RequestInfo}
 use Rattle.x509_fields.specs.Signed.{Signed}
-use Rattle.x509_paths.specs.declared.part.Part.{Part}
-use Rattle.x509_paths.specs.declared.part.Part.TheVariants as parts
+use Rattle.x509_elements.specs.declared.part.Part.{Part}
+use Rattle.x509_elements.specs.declared.part.Part.TheVariants as parts
 use Rattle.x509_report_lines.specs.Says.{count, items_of, list_of, optional, record_of}
 use Rattle.x509_report_objects.specs.Certificates.{certificate_members}
 use Rattle.x509_report_objects.specs.Errors.{refusal_name}
 use Rattle.x509_report_objects.specs.Lists.{list_members}
 use Rattle.x509_report_objects.specs.Places.{Found, Wishes, place_members, octets_members}
-use Rattle.x509_leniencies.specs.Uses.{Use}
+use Rattle.x509_elements.specs.Uses.{Use}
 use Rattle.x509_report_objects.specs.Leniencies.{first_uses, lenient_members, uses_unless}
 use Rattle.x509_report_objects.specs.RefusedValues.{any_in_list, any_in_request, any_refused, path_in, refused_members}
 use Rattle.x509_report_objects.specs.Requests.{request_members}

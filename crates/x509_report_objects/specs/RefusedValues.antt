@@ -10,10 +10,10 @@ use Rattle.x509_requests.specs.CriAttribute.{Attribute, ParsedAttribute, Extensi
 use Rattle.x509_requests.specs.RequestInfo.{RequestInfo}
 use Rattle.x509_der.specs.Words.{refusal_word}
 use Rattle.x509_fields.specs.Errors.{x509_word}
-use Rattle.x509_dump.specs.RefusedValues.{refused_values}
-use Rattle.x509_dump.specs.declared.refused.refused_value.RefusedValue.{RefusedValue}
-use Rattle.x509_paths.specs.Paths.{deepest, path}
-use Rattle.x509_paths.specs.declared.part.Part.{Part}
+use Rattle.x509_elements.specs.RefusedValues.{refused_values}
+use Rattle.x509_elements.specs.declared.refused.refused_value.RefusedValue.{RefusedValue}
+use Rattle.x509_elements.specs.Paths.{deepest, path}
+use Rattle.x509_elements.specs.declared.part.Part.{Part}
 use Rattle.x509_report_lines.specs.Says.{count, items_of, optional, record_of}
 use Rattle.x509_report_objects.specs.Errors.{refusal_name}
 

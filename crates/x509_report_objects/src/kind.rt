@@ -25,9 +25,9 @@ use crate::requests::request_members;
 use std::alloc::{AllocError, Global};
 use x509_certs::X509Certificate;
 use x509_der::{FromDer, Located};
+use x509_elements::Part;
 use x509_fields::X509Error;
 use x509_lists::CertificateRevocationList;
-use x509_paths::Part;
 use x509_report_lines::Line;
 use x509_requests::X509CertificationRequest;
 

@@ -1,15 +1,14 @@
 //! What a report says of the lenient rules that an object uses.
 
 ghost use Rattle.std.specs.Prelude.{◌≡◌, option_map, MatchResult, ⊤};
-ghost use Rattle.x509_leniencies.specs.Words.{leniency_word};
+ghost use Rattle.x509_elements.specs.Words.{leniency_word};
 ghost use Rattle.x509_report_lines.specs.Says.{Says, SaysEach, SaysUnder};
 ghost use Rattle.x509_report_objects.specs.Leniencies.{first_uses, use_report, use_with_path, uses_unless};
 
 use crate::refused_values::some_text;
-use crate::values::{count_under, first_of, optional_text_under, text_under};
+use crate::values::{count_under, optional_text_under, text_under};
 use std::alloc::{AllocError, Global};
-use x509_leniencies::{LenientUse, leniencies};
-use x509_paths::{Part, path_to};
+use x509_elements::{LenientUse, Part, first_of, leniencies, path_to};
 use x509_report_lines::Line;
 
 /// How many rules are told.

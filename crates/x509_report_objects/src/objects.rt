@@ -20,10 +20,9 @@ use crate::values::{
 use std::alloc::{AllocError, Global};
 use x509_certs::X509Certificate;
 use x509_der::{Err, Located};
+use x509_elements::{LenientUse, Part, path_to};
 use x509_fields::X509Error;
-use x509_leniencies::LenientUse;
 use x509_lists::CertificateRevocationList;
-use x509_paths::{Part, path_to};
 use x509_report_lines::Line;
 use x509_requests::X509CertificationRequest;
 

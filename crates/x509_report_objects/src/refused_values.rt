@@ -12,12 +12,11 @@ ghost use Rattle.x509_report_objects.specs.RefusedValues.{any_asked_for, any_in_
 ghost use Rattle.x509_report_objects.specs.RefusedValues.{report_with_path, some_text, value_report, value_reports, values_if};
 
 use crate::errors::refusal_name;
-use crate::values::{count_under, first_of, optional_text_under, text_under};
+use crate::values::{count_under, optional_text_under, text_under};
 use std::alloc::{AllocError, Global};
-use x509_dump::{RefusedValue, refused_values};
+use x509_elements::{Part, RefusedValue, first_of, path_to, refused_values};
 use x509_extensions::X509Extension;
 use x509_lists::{CertificateRevocationList, RevokedCertificate};
-use x509_paths::{Part, path_to};
 use x509_report_lines::Line;
 use x509_requests::{ParsedCriAttribute, X509CertificationRequest, X509CriAttribute};
 

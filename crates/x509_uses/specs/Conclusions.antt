@@ -5,15 +5,15 @@ use Rattle.x509_der.specs.Words.{refusal_word}
 use Rattle.x509_der.specs.declared.error.Err.{Err as Refusal}
 use Rattle.x509_fields.specs.Errors.{x509_word}
 use Rattle.x509_fields.specs.declared.error.X509Error.{X509Error}
-use Rattle.x509_paths.specs.Paths.{deepest, path}
-use Rattle.x509_paths.specs.declared.part.Part.TheVariants as parts
+use Rattle.x509_elements.specs.Paths.{deepest, path}
+use Rattle.x509_elements.specs.declared.part.Part.TheVariants as parts
 use Rattle.x509_fields.specs.Times.{instant_of}
 use Rattle.x509_fields.specs.declared.time.asn1_time.ASN1Time.{ASN1Time}
 use Rattle.x509_certs.specs.declared.validity.Validity.{Validity}
 use Rattle.x509_certs.specs.Certificate.{Certificate, HoldsSignedPart, certificate, certificate_by}
-use Rattle.x509_leniencies.specs.StrictRefusals.{StandsBy, first_use}
-use Rattle.x509_leniencies.specs.Uses.{leniencies}
-use Rattle.x509_leniencies.specs.declared.strict.StrictRefusal.{StrictRefusal}
+use Rattle.x509_elements.specs.StrictRefusals.{StandsBy, first_use}
+use Rattle.x509_elements.specs.Uses.{leniencies}
+use Rattle.x509_elements.specs.declared.strict.StrictRefusal.{StrictRefusal}
 
 -- The signed part of the certificate at the front of the input, up to this rest: the first element in the contents of the
 -- certificate, whole.

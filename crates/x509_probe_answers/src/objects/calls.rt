@@ -2,14 +2,12 @@
 
 use crate::objects::columns::put_read;
 use crate::show::{Answer, Look, Show, look_at};
-use std::alloc::AllocError;
 use x509_certs::{X509Certificate, parse_x509_certificate, parse_x509_der};
 use x509_der::{Oid, UnsignedBytes};
 use x509_fields::{X509Version, format_serial};
-use x509_paths::{Part, path_to};
 
-// Four octets as a number.
-fn number_in(bytes: &[u8]) -> Option<u32> {
+/// Four octets as a number.
+pub fn number_in(bytes: &[u8]) -> Option<u32> {
     match bytes {
         [b0, b1, b2, b3] => Some(u32::from_be_bytes([*b0, *b1, *b2, *b3])),
         _ => None,
@@ -40,18 +38,6 @@ fn put_serial(a: &[u8], out: &mut Answer) {
     match format_serial(out.alloc(), a) {
         Ok(text) => out.add(text.as_str()),
         Err(kind) => out.named_error(&kind),
-    }
-}
-
-// The names of the fields that lead to an octet of an object.
-fn put_path(object: Part, a: &[u8], octet: &[u8], out: &mut Answer) {
-    let Some(octet) = number_in(octet) else {
-        out.add("four bytes");
-        return;
-    };
-    match path_to(out.alloc(), object, a, octet as usize) {
-        Ok(text) => out.add(text.as_str()),
-        Err(AllocError) => out.stop(),
     }
 }
 
@@ -103,9 +89,6 @@ pub fn answer(word: &str, a: &[u8], b: &[u8], out: &mut Answer) -> bool {
         "format_serial" => put_serial(a, out),
         "parse" => put_parsed(a, out),
         "certificate_fields" => put_fields(a, out),
-        "certificate_path" => put_path(Part::Certificate, a, b, out),
-        "list_path" => put_path(Part::List, a, b, out),
-        "request_path" => put_path(Part::Request, a, b, out),
         _ => return false,
     }
     true

@@ -1,6 +1,6 @@
 //! What a report says of a value, and of a list of values.
 
-ghost use Rattle.std.specs.Prelude.{◌≡◌, ℕ, IfOk, map, option_map, take};
+ghost use Rattle.std.specs.Prelude.{◌≡◌, ℕ, IfOk, map, option_map};
 ghost use Rattle.json.specs.Json as json;
 ghost use Rattle.x509_der.specs.Promises.{option_view};
 ghost use Rattle.x509_report_lines.specs.Says.{Says, SaysEach, SaysUnder, list_of, optional};
@@ -101,15 +101,4 @@ pub fn optional_under<T: Said>(
         None => out.null()?,
     }
     Ok(())
-}
-
-/// The first values, so many where there are more.
-pub fn first_of<T>(values: &[T], count: usize) -> &[T]
-    ensures { result.now ≡ take count values.now }
-{
-    if count <= values.len() {
-        &values[..count]
-    } else {
-        values
-    }
 }

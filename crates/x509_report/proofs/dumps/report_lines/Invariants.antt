@@ -1,14 +1,15 @@
 -- The lines that are left lead to the end.
 use Rattle.std.proofs.Common.{◌≡◌}
-use Rattle.x509_dump.specs.Elements.{elements_of}
-use Rattle.x509_dump.specs.Walks.{left}
-use Rattle.x509_report.specs.Dumps.{marked_lines, part_of}
+use Rattle.x509_elements.specs.Elements.{elements_of}
+use Rattle.x509_elements.specs.Walks.{left}
+use Rattle.x509_report.specs.Dumps.{marked_lines}
+use Rattle.x509_report.specs.Views.{part_of}
 use Rattle.x509_report.proofs.Leads.{Leads}
 use Rattle.x509_report.proofs.dumps.report_lines.Given as goal
 
 abbrev pub invariant-loop-found : goal.invariant-loop-found
 invariant-loop-found g l = record {
   form : l.printer.form ≡ l.initial.printer.form;
-  leads : Leads (g.W.Write.contents l.initial.printer.out) (g.W.Write.contents l.printer.out) (marked_lines l.view l.octets l.left (left l.found-iterator))
-      (marked_lines l.view l.octets l.fn.values (elements_of (part_of l.view) l.octets));
+  leads : Leads (g.W.Write.contents l.initial.printer.out) (g.W.Write.contents l.printer.out) (marked_lines l.form l.view l.octets l.left l.opened (left l.found-iterator))
+      (marked_lines l.form l.view l.octets l.fn.values 0 (elements_of (part_of l.view) l.octets));
 }

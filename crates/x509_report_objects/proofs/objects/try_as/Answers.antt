@@ -1,7 +1,7 @@
 -- What the reader takes is what the grammar reads; its refusal is that of the grammar, and so is its octet.
 use Rattle.std.proofs.Common.{◌≡◌, true, Ok, refl, arith, rules}
 use Rattle.x509_fields.specs.Errors.{is_x509_memory}
-use Rattle.x509_leniencies.proofs.Judging.{read_where}
+use Rattle.x509_elements.proofs.Judging.{read_where}
 use Rattle.x509_report_objects.specs.Attempts.{found_of, wishes_of}
 use Rattle.x509_report_objects.specs.Objects.{is_wanted, told}
 use Rattle.x509_report_objects.proofs.Refused.{told_where}

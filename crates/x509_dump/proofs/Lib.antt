@@ -1,9 +1,0 @@
-pub mod Elements
-pub mod Fronts
-pub mod Shown
-pub mod Walking
-pub mod Plain
-pub mod Markup
-pub mod Within
-pub mod Refusals
-pub mod Leftover

@@ -1,0 +1,13 @@
+pub mod Choosing
+pub mod Deepest
+pub mod Finding
+pub mod Unknown
+pub mod Elements
+pub mod Fronts
+pub mod Walking
+pub mod Within
+pub mod Refusals
+pub mod Leftover
+pub mod Judging
+pub mod Using
+pub mod StrictReading

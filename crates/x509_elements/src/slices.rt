@@ -1,0 +1,25 @@
+//! Parts of slices.
+
+ghost use Rattle.std.specs.Prelude.{◌≡◌, drop, take};
+
+/// The first values, so many where there are more.
+pub fn first_of<T>(values: &[T], count: usize) -> &[T]
+    ensures { result.now ≡ take count values.now }
+{
+    if count <= values.len() {
+        &values[..count]
+    } else {
+        values
+    }
+}
+
+/// The values behind the first ones; none where there are no more than so many.
+pub fn behind<T>(values: &[T], count: usize) -> &[T]
+    ensures { result.now ≡ drop count values.now }
+{
+    if count <= values.len() {
+        &values[count..]
+    } else {
+        &[]
+    }
+}

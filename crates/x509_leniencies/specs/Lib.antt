@@ -1,4 +1,0 @@
-pub mod Judgements
-pub mod Uses
-pub mod StrictRefusals
-pub mod Words

@@ -1,4 +1,0 @@
-pub mod Choosing
-pub mod Deepest
-pub mod Finding
-pub mod Unknown
