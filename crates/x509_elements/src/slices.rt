@@ -6,20 +6,12 @@ ghost use Rattle.std.specs.Prelude.{◌≡◌, drop, take};
 pub fn first_of<T>(values: &[T], count: usize) -> &[T]
     ensures { result.now ≡ take count values.now }
 {
-    if count <= values.len() {
-        &values[..count]
-    } else {
-        values
-    }
+    &values[..count.min(values.len())]
 }
 
 /// The values behind the first ones; none where there are no more than so many.
 pub fn behind<T>(values: &[T], count: usize) -> &[T]
     ensures { result.now ≡ drop count values.now }
 {
-    if count <= values.len() {
-        &values[count..]
-    } else {
-        &[]
-    }
+    values.get(count..).unwrap_or(&[])
 }

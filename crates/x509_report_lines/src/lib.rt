@@ -1,5 +1,6 @@
 //! Lines of reports: a line of JSON, written a token at a time; the same for people; a line for each element of an object; all of these as
-//! parts of a web page; and where the objects of a file stand, in PEM and DER.
+//! parts of a web page; and where the objects of a file stand, in PEM and DER. It may use x509_elements and the names of identifiers, names no
+//! structure, and knows no file.
 #![tactic(auto)]
 
 mod blocks;
