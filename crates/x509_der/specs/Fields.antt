@@ -73,6 +73,17 @@ pub record ReadsNext {E A X L : Type 0} (is_memory : E → Bool) (takes_memory :
   pub least : IfOk result (λ x. AddsAtLeast (heads (view x).1 - 1 + min 1 (length (view x).0)) old new)
   pub once : SpendsOnce tight (λ x. (view x).0) place old new result
 
+-- The same of several fields in a row, of which at least so many elements must stand there, at a place that was looked at so often before.
+pub record ReadsSeveral {E A X L : Type 0} (is_memory : E → Bool) (takes_memory : Bool) (heads : A → ℕ) (view : X → List ℕ × A) (beyond : X → L) (mark : X → Bool) (plan : Plan (Refusal E) A) (elements looked : ℕ) (plain : Bool) (more : ℕ → L → L) (place : List ℕ) (outside : L) (old new : ℕ) (result : Result X (Refused E L)) : Type 0 where
+  pub reads : AnswersAt is_memory takes_memory view plan more place outside result
+  pub outer : IfOk result (λ x. beyond x ≡ outside)
+  pub marks : IfOk result (λ x. mark x ≡ (plain && plan.marks place))
+  pub grows : old ≤ new
+  -- eight for each byte, less that look, and less what each of these elements leaves over
+  pub count : new ≤ old + (8 * length place - 8 * looked)
+  pub sizes : IfOk result (λ x. new + 8 * elements + 8 * length (view x).0 ≤ old + 8 * length place)
+  pub least : IfOk result (λ x. AddsAtLeast (heads (view x).1 + min 1 (length (view x).0) - looked) old new)
+
 -- The same of a field that may be absent.
 pub record ReadsSoft {E A X L : Type 0} (is_memory : E → Bool) (form : Form) (own : Header → Bool) (heads : A → ℕ) (view : X → List ℕ × Option A) (beyond : X → L) (mark : X → Bool) (plan : Plan (Refusal E) A) (tight : List ℕ → ℕ → ℕ → Type 0) (plain : Bool) (more : ℕ → L → L) (place : List ℕ) (outside : L) (old new : ℕ) (result : Result X (Refused E L)) : Type 0 where
   pub reads : AnswersAt is_memory true view (soft any_tag plan) more place outside result

@@ -35,7 +35,7 @@ enum Coming {
 
 /// Where reading stands among the members of an element.
 #[derive(Clone, Copy, Debug)]
-pub struct Cursor {
+pub(crate) struct Cursor {
     coming: Coming,
     number: usize,
     /// What the identifiers so far told.
@@ -154,7 +154,7 @@ impl Coming {
 
 impl Cursor {
     /// Before an element that is this part, behind which no field comes.
-    pub fn alone(part: Part) -> Cursor
+    pub(crate) fn alone(part: Part) -> Cursor
         ensures { standing_of result ≡ alone part }
     {
         Cursor {
@@ -165,7 +165,7 @@ impl Cursor {
     }
 
     /// Before the first member of an element that is this part.
-    pub fn of(part: Part) -> Cursor
+    pub(crate) fn of(part: Part) -> Cursor
         ensures { standing_of result ≡ first_of part }
     {
         Cursor {
@@ -177,7 +177,7 @@ impl Cursor {
 
     /// What the next member is called, an element with this header and these contents, as far as they are there, and where reading stands
     /// behind it. Where it is no field that may stand there, neither it nor any behind it has a name.
-    pub fn step(self, header: &Header, contents: &[u8]) -> (Called, Cursor)
+    pub(crate) fn step(self, header: &Header, contents: &[u8]) -> (Called, Cursor)
         requires { (standing_of self).number + 1 < 2 ^ 64 }
         ensures { (called_of result.0, standing_of result.1) ≡ stepped (standing_of self) header.now contents.now }
     {

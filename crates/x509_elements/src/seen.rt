@@ -7,20 +7,20 @@ use x509_der::{Header, Tries, read_header_loose};
 
 /// The element at the front of a window.
 #[derive(Clone, Copy, Debug)]
-pub struct Seen<'a> {
+pub(crate) struct Seen<'a> {
     /// Its header, the length in any octets.
-    pub header: Header,
+    pub(crate) header: Header,
     /// How many octets its header has.
-    pub size: usize,
+    pub(crate) size: usize,
     /// Its contents, as far as they are there.
-    pub contents: &'a [u8],
+    pub(crate) contents: &'a [u8],
     /// What stands behind it.
-    pub behind: &'a [u8],
+    pub(crate) behind: &'a [u8],
 }
 
 /// The element at the front of a window; none where no header stands there.
 #[tactic(auto, unfolding(crate::specs::Seen::seen))]
-pub fn see(window: &[u8]) -> Option<Seen<'_>>
+pub(crate) fn see(window: &[u8]) -> Option<Seen<'_>>
     ensures found { option_map seen_of result ≡ seen window.now }
     ensures sizes { IfSome result (λ s. s.size + length s.contents.now + length s.behind.now ≡ length window.now) }
 {
@@ -47,7 +47,7 @@ pub(crate) fn front_contents(octets: &[u8]) -> &[u8]
 }
 
 /// Whether these octets are one element.
-pub fn is_one(octets: &[u8]) -> bool
+pub(crate) fn is_one(octets: &[u8]) -> bool
     ensures { result ≡ is_one octets.now }
 {
     match read_header_loose(&mut Tries::new(), octets) {
@@ -77,7 +77,7 @@ fn begins_sequence(octets: &[u8]) -> bool
 }
 
 /// Whether these contents of a BIT STRING are whole octets that are a SEQUENCE.
-pub fn holds_sequence(contents: &[u8]) -> bool
+pub(crate) fn holds_sequence(contents: &[u8]) -> bool
     ensures { result ≡ holds_sequence contents.now }
 {
     match contents {

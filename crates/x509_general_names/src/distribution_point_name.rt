@@ -2,21 +2,22 @@
 
 ghost use Rattle.std.specs.Prelude.{◌≡◌, ◌≤◌, ◌+◌, ◌*◌, true, length, IfOk};
 ghost use Rattle.x509_der.specs.Place.{at, outside_of, bytes_in, outside_in};
-ghost use Rattle.x509_der.specs.Primitives.{is_explicit};
+ghost use Rattle.x509_der.specs.Primitives.{is_constructed, is_explicit};
 ghost use Rattle.x509_der.specs.Reading.{AddsAtLeast, strict};
 ghost use Rattle.x509_fields.specs.Errors.{is_x509_memory};
 ghost use Rattle.x509_general_names.specs.DistributionPointName.{PointName, point_name_of, choice_header, is_choice, closes, point_name, point_name_heads};
 ghost use Rattle.x509_general_names.specs.DistributionPointName.{distribution_point_name, distribution_point_name_heads, distribution_point_name_laws};
-ghost use Rattle.x509_der.specs.Promises.{AnswersAt, GivesAt};
+ghost use Rattle.x509_der.specs.Promises.{AnswersAt, GivesAt, ReadsAt};
+ghost use Rattle.x509_names.specs.Names.{relative_name_of, relative_name, relative_name_heads};
 
 use crate::general_name::GeneralName;
 use crate::implicit_names::some_names_in;
 use std::alloc::Global;
 use x509_der::{
     BerError, Class, Err, FromDer, Header, Outside, Place, Refused, Sequence, Tag, Tries, Window,
-    converted,
+    converted, read_run1,
 };
-use x509_fields::{TryClone, X509Error};
+use x509_fields::{TryClone, X509Error, set_at};
 use x509_names::RelativeDistinguishedName;
 
 /// The name of a distribution point (RFC 5280, section 4.2.1.13).
@@ -109,10 +110,27 @@ fn name_in<'a, L: Outside>(
         Ok((rest, DistributionPointName::FullName(names), closes & plain))
     } else {
         let relative = Place::inside(tries, &place.left(inner));
-        let (name, plain) = RelativeDistinguishedName::read_at(alloc, tries, &relative)?;
+        let (name, plain) = relative_name_at(alloc, tries, &relative)?;
         let name = DistributionPointName::NameRelativeToCRLIssuer(name);
         Ok((relative.rest(), name, closes & plain))
     }
+}
+
+// The relative name at this place, whose SET is read as any list is, into memory: it is rare, and the reader of sets that keeps one
+// attribute without memory has so one caller, the loop over a name, into which LLVM writes it.
+#[tactic(auto, unfolding(x509_names::specs::Names::relative_name), using(x509_der::proofs::Marking::marks_of_readers))]
+fn relative_name_at<'a, L: Outside>(
+    alloc: Global,
+    tries: &mut Tries,
+    place: &Place<'a, L>,
+) -> Result<(RelativeDistinguishedName<'a>, bool), Refused<X509Error, L>>
+    ensures { ReadsAt is_x509_memory true strict (is_constructed 17) relative_name_heads relative_name_of relative_name L.adds
+        (at place.now) (outside_of place.now) tries.old tries.new result }
+{
+    let contents = set_at(place)?;
+    let (tail, attributes, plain) = read_run1(alloc, tries, &contents)?;
+    let name = RelativeDistinguishedName::new(attributes.into_vec());
+    Ok((name, plain & tail.is_empty()))
 }
 
 // What stands behind a header of number 0 or 1, whatever its class and its length.

@@ -1,9 +1,8 @@
 //! When the next list comes.
 
-ghost use Rattle.std.specs.Prelude.{◌≡◌, ◌≤◌, ◌+◌, ◌-◌, ◌*◌, ◌&&◌, false, IfOk, min, length};
-ghost use Rattle.x509_der.specs.Fields.{next_of, plain_in, outer_of};
-ghost use Rattle.x509_der.specs.Promises.{option_view, option_heads, AnswersAt};
-ghost use Rattle.x509_der.specs.Reading.{AddsAtLeast};
+ghost use Rattle.std.specs.Prelude.{false, min, length};
+ghost use Rattle.x509_der.specs.Fields.{next_of, plain_in, outer_of, ReadsSeveral};
+ghost use Rattle.x509_der.specs.Promises.{option_view, option_heads};
 ghost use Rattle.x509_fields.specs.Errors.{is_x509_memory};
 ghost use Rattle.x509_fields.specs.Times.{time_of};
 ghost use Rattle.x509_lists.specs.NextUpdate.{next_update};
@@ -20,16 +19,8 @@ pub(crate) fn read_next_update<'a, L: Outside>(
     tries: &mut Tries,
     fields: &Fields<'a, L>,
 ) -> Result<(Fields<'a, L>, Option<ASN1Time>), Refused<X509Error, L>>
-    ensures reads { AnswersAt is_x509_memory false (λ x. (next_of x.0, option_view time_of x.1)) next_update L.adds (next_of fields.now) (outer_of fields.now)
-        result }
-    ensures outer { IfOk result (λ x. outer_of x.0 ≡ outer_of fields.now) }
-    ensures marks { IfOk result (λ x. plain_in x.0 ≡ (plain_in fields.now && next_update.marks (next_of fields.now))) }
-    ensures grows { tries.old ≤ tries.new }
-    ensures count { tries.new ≤ tries.old + (8 * length (next_of fields.now) - 8) }
-    ensures sizes { IfOk result (λ x. tries.new + 8 * length (next_of x.0) ≤ tries.old + 8 * length (next_of fields.now)) }
-    ensures least { IfOk result
-        (λ x. AddsAtLeast (option_heads (λ _. 1) (option_view time_of x.1) + min 1 (length (next_of x.0)) - min 1 (length (next_of fields.now))) tries.old
-        tries.new) }
+    ensures { ReadsSeveral is_x509_memory false (option_heads (λ _. 1)) (λ x. (next_of x.0, option_view time_of x.1)) (λ x. outer_of x.0) (λ x. plain_in x.0)
+        next_update 0 (min 1 (length (next_of fields.now))) (plain_in fields.now) L.adds (next_of fields.now) (outer_of fields.now) tries.old tries.new result }
 {
     if fields.are_over() {
         return Ok((fields.same(), None));
