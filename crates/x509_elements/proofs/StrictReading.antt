@@ -1,5 +1,6 @@
 -- A strict reader's refusal at the first rule that the object uses.
 use Rattle.std.proofs.Common.{◌≡◌, ℕ, ◌<◌, Bool, true, false, List, [], ◌∷◌, length, Option, Some, None, Result, Ok, Err, inl, inr, ◌⊎◌, subst, sym, ap, ◌∙◌, refl, arith, cond}
+use Rattle.std.specs.Prelude.{IfOk}
 use Rattle.x509_der.specs.declared.error.Err.{Err as Refusal}
 use Rattle.x509_der.specs.declared.error.Err.TheVariants.{Error}
 use Rattle.x509_der.specs.declared.error.Located.{Located}
@@ -14,7 +15,7 @@ use Rattle.x509_elements.specs.declared.part.Part.{Part}
 use Rattle.x509_elements.specs.declared.judged.Judged.TheVariants.{Absent, Lenient}
 use Rattle.x509_elements.specs.declared.strict.StrictRefusal.{StrictRefusal}
 use Rattle.x509_elements.specs.Judgements.{judged_by, judged_with, marked, part_judged}
-use Rattle.x509_elements.specs.StrictRefusals.{ReadsPlainly, StandsBy, first_use, placed_by}
+use Rattle.x509_elements.specs.StrictRefusals.{ReadsPlainly, StandsBy, first_use, placed_by, why_alone}
 use Rattle.x509_elements.specs.Uses.{Use, deepest, inside, leniencies, part_rule, some_leniently, told}
 
 none_used : (us : List Use) → first_use us ≡ None → us ≡ []
@@ -126,3 +127,8 @@ module _ {A X : Type 0} (view : X → List ℕ × A) (p : Field A) (object : Par
       → (e ≡ placed_by refused (first_use (leniencies object octets))) ⊎ ((is_excused is_x509_memory true e.why ≡ true) × (e.rule ≡ None))
       → ReadsPlainly view p object octets (Err e)
   refused_plainly takes_memory is agrees marks k judges refused e own h so = refused_or_memory agrees marks k judges refused e own (subst (λ b. Strictly b (Err refused)) is h) so
+
+-- what holds of what was read, whether or not a refusal has its rule
+pub ruled : {X : Type 0} (P : X → Type 0) (result : Result X StrictRefusal) → IfOk (why_alone result) P → IfOk result P
+ruled P (Ok x) holds = holds
+ruled P (Err e) _ = tt

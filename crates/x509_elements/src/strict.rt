@@ -121,10 +121,7 @@ pub fn parse_x509_certificate_strict_located<'a>(
     ensures reads { ReadsPlainly (λ x. (x.0.now, certificate_of x.1)) (certificate true) parts.Certificate i.now result }
     ensures stands { IfOk result (λ x. CertificateStands true i.now (certificate_of x.1) x.0.now) }
 {
-    match read_plainly(alloc, Part::Certificate, i) {
-        Ok((rest, certificate)) => Ok((rest, certificate)),
-        Err(e) => Err(e),
-    }
+    read_plainly(alloc, Part::Certificate, i)
 }
 
 /// The same as [`parse_x509_crl_strict`](x509_lists::parse_x509_crl_strict), with the octet and the rule of a refusal, as above.
@@ -139,10 +136,7 @@ pub fn parse_x509_crl_strict_located<'a>(
     ensures reads { ReadsPlainly (λ x. (x.0.now, list_of x.1)) certificate_list parts.List i.now result }
     ensures stands { IfOk result (λ x. ListStands i.now (list_of x.1) x.0.now) }
 {
-    match read_plainly(alloc, Part::List, i) {
-        Ok((rest, list)) => Ok((rest, list)),
-        Err(e) => Err(e),
-    }
+    read_plainly(alloc, Part::List, i)
 }
 
 /// The same of a list whose certificates aren't kept
@@ -158,10 +152,7 @@ pub fn parse_x509_crl_entries_strict_located<'a>(
     ensures reads { ReadsPlainly (λ x. (x.0.now, list_entries_of x.1)) certificate_list parts.List i.now result }
     ensures stands { IfOk result (λ x. ListStands i.now (list_entries_of x.1) x.0.now) }
 {
-    match read_plainly(alloc, Part::List, i) {
-        Ok((rest, list)) => Ok((rest, list)),
-        Err(e) => Err(e),
-    }
+    read_plainly(alloc, Part::List, i)
 }
 
 /// The same as [`parse_x509_csr_strict`](x509_requests::parse_x509_csr_strict), with the octet and the rule of a refusal, as above.
@@ -176,8 +167,5 @@ pub fn parse_x509_csr_strict_located<'a>(
     ensures reads { ReadsPlainly (λ x. (x.0.now, certification_request_of x.1)) certification_request parts.Request i.now result }
     ensures stands { IfOk result (λ x. RequestStands i.now (certification_request_of x.1) x.0.now) }
 {
-    match read_plainly(alloc, Part::Request, i) {
-        Ok((rest, request)) => Ok((rest, request)),
-        Err(e) => Err(e),
-    }
+    read_plainly(alloc, Part::Request, i)
 }

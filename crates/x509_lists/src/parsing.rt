@@ -25,10 +25,7 @@ pub fn parse_x509_crl<'a>(
     ensures exact { ReadsExactly is_x509_memory true (λ x. (x.0.now, list_of x.1)) certificate_list i.now result }
     ensures stands { IfOk result (λ x. ListStands i.now (list_of x.1) x.0.now) }
 {
-    match CertificateRevocationList::from_der(alloc, i) {
-        Ok((rest, list)) => Ok((rest, list)),
-        Err(e) => Err(e),
-    }
+    CertificateRevocationList::from_der(alloc, i)
 }
 
 /// The same as [`parse_x509_crl`]; a refusal has the offset, in octets from the front, of the place at which the grammar refuses
@@ -44,10 +41,7 @@ pub fn parse_x509_crl_located<'a>(
     ensures exact { ReadsWhere is_x509_memory true (λ x. (x.0.now, list_of x.1)) certificate_list i.now result }
     ensures stands { IfOk result (λ x. ListStands i.now (list_of x.1) x.0.now) }
 {
-    match CertificateRevocationList::from_der_located(alloc, i) {
-        Ok((rest, list)) => Ok((rest, list)),
-        Err(e) => Err(e),
-    }
+    CertificateRevocationList::from_der_located(alloc, i)
 }
 
 /// The same as [`parse_x509_crl`].
@@ -74,10 +68,7 @@ pub fn parse_x509_crl_strict<'a>(
     ensures exact { ReadsExactly is_x509_memory true (λ x. (x.0.now, list_of x.1)) plain_list i.now result }
     ensures stands { IfOk result (λ x. ListStands i.now (list_of x.1) x.0.now) }
 {
-    match Plainly.parse(alloc, i) {
-        Ok((rest, list)) => Ok((rest, list)),
-        Err(e) => Err(e),
-    }
+    Plainly.parse(alloc, i)
 }
 
 /// The same as [`parse_x509_crl`], and whether the list stands plainly: whether [`parse_x509_crl_strict`] would take it too. The
@@ -110,10 +101,7 @@ pub fn parse_x509_crl_entries<'a>(
     ensures exact { ReadsExactly is_x509_memory true (λ x. (x.0.now, list_entries_of x.1)) certificate_list i.now result }
     ensures stands { IfOk result (λ x. ListStands i.now (list_entries_of x.1) x.0.now) }
 {
-    match CertificateListEntries::from_der(alloc, i) {
-        Ok((rest, list)) => Ok((rest, list)),
-        Err(e) => Err(e),
-    }
+    CertificateListEntries::from_der(alloc, i)
 }
 
 /// The same as [`parse_x509_crl_entries`]; a refusal has the offset, in octets from the front, of the place at which the grammar refuses
@@ -129,10 +117,7 @@ pub fn parse_x509_crl_entries_located<'a>(
     ensures exact { ReadsWhere is_x509_memory true (λ x. (x.0.now, list_entries_of x.1)) certificate_list i.now result }
     ensures stands { IfOk result (λ x. ListStands i.now (list_entries_of x.1) x.0.now) }
 {
-    match CertificateListEntries::from_der_located(alloc, i) {
-        Ok((rest, list)) => Ok((rest, list)),
-        Err(e) => Err(e),
-    }
+    CertificateListEntries::from_der_located(alloc, i)
 }
 
 /// Reads the list of revoked certificates at the front of the bytes as [`parse_x509_crl_strict`] does, where it stands plainly, by no
@@ -148,8 +133,5 @@ pub fn parse_x509_crl_entries_strict<'a>(
     ensures exact { ReadsExactly is_x509_memory true (λ x. (x.0.now, list_entries_of x.1)) plain_list i.now result }
     ensures stands { IfOk result (λ x. ListStands i.now (list_entries_of x.1) x.0.now) }
 {
-    match Plainly.parse(alloc, i) {
-        Ok((rest, list)) => Ok((rest, list)),
-        Err(e) => Err(e),
-    }
+    Plainly.parse(alloc, i)
 }

@@ -15,7 +15,7 @@ use crate::issue::read_issue;
 use crate::list_version::read_version;
 use crate::tbs_cert_list::TbsCertListOf;
 use std::alloc::Global;
-use x509_der::{Fields, Outside, Place, Refused, Tries};
+use x509_der::{Fields, Outside, Place, Refused, Tries, ok};
 use x509_extensions::X509ExtensionParser;
 use x509_fields::{X509Error, sequence_at};
 
@@ -65,19 +65,10 @@ pub(crate) fn read_parts<'a, R: Entries<'a>, L: Outside>(
     let contents = sequence_at(place)?;
     let fields = Fields::of(tries, &contents);
     let (fields, version) = read_version(tries, &fields);
-    let (fields, issue) = match read_issue(alloc, tries, &fields) {
-        Ok((fields, issue)) => (fields, issue),
-        Err(e) => return Err(e),
-    };
-    let (fields, revoked) = match R::read_next(alloc, tries, &fields) {
-        Ok((fields, revoked)) => (fields, revoked),
-        Err(e) => return Err(e),
-    };
+    let (fields, issue) = ok!(read_issue(alloc, tries, &fields));
+    let (fields, revoked) = ok!(R::read_next(alloc, tries, &fields));
     let closing = X509ExtensionParser::new().read_wrapped_at(alloc, tries, 0, &fields.place);
-    let (extensions, extensions_plain) = match closing {
-        Ok((extensions, plain)) => (extensions, plain),
-        Err(e) => return Err(e),
-    };
+    let (extensions, extensions_plain) = ok!(closing);
     let bytes = place.bytes();
     let tbs = TbsCertListOf {
         version,

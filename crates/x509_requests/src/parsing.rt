@@ -22,10 +22,7 @@ pub fn parse_x509_csr<'a>(
     ensures exact { ReadsExactly is_x509_memory true (λ x. (x.0.now, certification_request_of x.1)) certification_request i.now result }
     ensures stands { IfOk result (λ x. RequestStands i.now (certification_request_of x.1) x.0.now) }
 {
-    match X509CertificationRequest::from_der(alloc, i) {
-        Ok((rest, request)) => Ok((rest, request)),
-        Err(e) => Err(e),
-    }
+    X509CertificationRequest::from_der(alloc, i)
 }
 
 /// The same as [`parse_x509_csr`]; a refusal has the offset, in octets from the front, of the place at which the grammar refuses
@@ -41,10 +38,7 @@ pub fn parse_x509_csr_located<'a>(
     ensures exact { ReadsWhere is_x509_memory true (λ x. (x.0.now, certification_request_of x.1)) certification_request i.now result }
     ensures stands { IfOk result (λ x. RequestStands i.now (certification_request_of x.1) x.0.now) }
 {
-    match X509CertificationRequest::from_der_located(alloc, i) {
-        Ok((rest, request)) => Ok((rest, request)),
-        Err(e) => Err(e),
-    }
+    X509CertificationRequest::from_der_located(alloc, i)
 }
 
 /// Reads the certification request at the front of the bytes (RFC 2986, section 4.2) where it stands plainly, by no rule that is
@@ -61,10 +55,7 @@ pub fn parse_x509_csr_strict<'a>(
     ensures exact { ReadsExactly is_x509_memory true (λ x. (x.0.now, certification_request_of x.1)) plain_request i.now result }
     ensures stands { IfOk result (λ x. RequestStands i.now (certification_request_of x.1) x.0.now) }
 {
-    match Plainly.parse(alloc, i) {
-        Ok((rest, request)) => Ok((rest, request)),
-        Err(e) => Err(e),
-    }
+    Plainly.parse(alloc, i)
 }
 
 /// The same as [`parse_x509_csr`], and whether the request stands plainly: whether [`parse_x509_csr_strict`] would take it too. The

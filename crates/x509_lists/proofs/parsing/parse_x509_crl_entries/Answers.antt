@@ -1,8 +1,9 @@
 use Rattle.std.proofs.Common.{arith}
+use Rattle.std.proofs.lemmas.Result.{IfOk-weaker}
 use Rattle.x509_lists.specs.ListEntries.{list_entries_of}
 use Rattle.x509_lists.proofs.Windows.{list_stands}
 use Rattle.x509_lists.proofs.parsing.parse_x509_crl_entries.Goals as goal
 
-pub returns-in-Ok-clause-stands : goal.returns-in-Ok-clause-stands
-returns-in-Ok-clause-stands c =
-    list_stands c.args.i.now (list_entries_of c.in-Ok.list) c.in-Ok.rest.now (λ k. omega (arith, c.type_inv.i k)) c.in-Ok.ensures.accepted
+pub returns-clause-stands : goal.returns-clause-stands
+returns-clause-stands c =
+    IfOk-weaker c.from_der.result _ _ (λ x. list_stands c.args.i.now (list_entries_of x.1) x.0.now (λ k. omega (arith, c.type_inv.i k))) c.from_der.ensures.accepted

@@ -1,13 +1,9 @@
 use Rattle.std.proofs.Common.{arith}
-use Rattle.x509_der.specs.declared.error.Err.TheVariants.{Error}
-use Rattle.x509_der.proofs.Strict.{front_loosely}
-use Rattle.x509_fields.specs.declared.error.X509Error.TheVariants as x509
-use Rattle.x509_lists.specs.CertificateList.{certificate_list, certificate_list_laws}
+use Rattle.std.proofs.lemmas.Result.{IfOk-weaker}
 use Rattle.x509_lists.specs.ListEntries.{list_entries_of}
-use Rattle.x509_lists.proofs.Windows.{list_stands}
+use Rattle.x509_lists.proofs.Windows.{plain_list_stands}
 use Rattle.x509_lists.proofs.parsing.parse_x509_crl_entries_strict.Goals as goal
 
-pub returns-in-Ok-clause-stands : goal.returns-in-Ok-clause-stands
-returns-in-Ok-clause-stands c =
-    list_stands c.args.i.now (list_entries_of c.in-Ok.list) c.in-Ok.rest.now (λ k. omega (arith, c.type_inv.i k))
-    (front_loosely (Error x509.Generic) certificate_list certificate_list_laws.marked c.args.i.now (list_entries_of c.in-Ok.list) c.in-Ok.rest.now (λ k. omega (arith, c.type_inv.i k)) c.in-Ok.ensures.exact.accepted)
+pub returns-clause-stands : goal.returns-clause-stands
+returns-clause-stands c =
+    IfOk-weaker c.parse.result _ _ (λ x. plain_list_stands c.args.i.now (list_entries_of x.1) x.0.now (λ k. omega (arith, c.type_inv.i k))) c.parse.ensures.exact.accepted

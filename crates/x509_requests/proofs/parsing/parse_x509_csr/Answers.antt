@@ -1,8 +1,9 @@
 use Rattle.std.proofs.Common.{arith}
+use Rattle.std.proofs.lemmas.Result.{IfOk-weaker}
 use Rattle.x509_requests.specs.Request.{certification_request_of}
 use Rattle.x509_requests.proofs.Windows.{request_stands}
 use Rattle.x509_requests.proofs.parsing.parse_x509_csr.Goals as goal
 
-pub returns-in-Ok-clause-stands : goal.returns-in-Ok-clause-stands
-returns-in-Ok-clause-stands c =
-    request_stands c.args.i.now (certification_request_of c.in-Ok.request) c.in-Ok.rest.now (λ k. omega (arith, c.type_inv.i k)) c.in-Ok.ensures.accepted
+pub returns-clause-stands : goal.returns-clause-stands
+returns-clause-stands c =
+    IfOk-weaker c.from_der.result _ _ (λ x. request_stands c.args.i.now (certification_request_of x.1) x.0.now (λ k. omega (arith, c.type_inv.i k))) c.from_der.ensures.accepted
