@@ -10,7 +10,7 @@ use crate::basic_fields::read_basic_fields;
 use crate::tbs_certificate::TbsCertificate;
 use crate::unique_identifier::{read_issuer_uid, read_subject_uid};
 use std::alloc::Global;
-use x509_der::{Outside, Place, Reader, Refused, Tries, UnsignedBytes};
+use x509_der::{Outside, Place, Reader, Refused, Tries, UnsignedBytes, ok};
 use x509_extensions::X509ExtensionParser;
 use x509_fields::{X509Error, X509Version, sequence_at};
 
@@ -55,19 +55,13 @@ impl<'a> Reader<'a, X509Error, TbsCertificate<'a>> for TbsReader {
         place: &Place<'a, L>,
     ) -> Result<(TbsCertificate<'a>, bool), Refused<X509Error, L>> {
         let contents = sequence_at(place)?;
-        let (fields, basic) = match read_basic_fields(alloc, tries, &contents) {
-            Ok((fields, basic)) => (fields, basic),
-            Err(e) => return Err(e),
-        };
+        let (fields, basic) = ok!(read_basic_fields(alloc, tries, &contents));
         let (fields, issuer_uid) = read_issuer_uid(tries, &fields)?;
         let (fields, subject_uid) = read_subject_uid(tries, &fields)?;
-        let (extensions, extensions_plain) = match self
+        let closing = self
             .extensions
-            .read_wrapped_at(alloc, tries, 3, &fields.place)
-        {
-            Ok((extensions, plain)) => (extensions, plain),
-            Err(e) => return Err(e),
-        };
+            .read_wrapped_at(alloc, tries, 3, &fields.place);
+        let (extensions, extensions_plain) = ok!(closing);
         let bytes = place.bytes();
         let tbs = TbsCertificate {
             version: basic.version.unwrap_or(X509Version::V1),

@@ -5,9 +5,9 @@ use Rattle.x509_certs.specs.TbsCertificate.{tbs}
 use Rattle.x509_certs.specs.UniqueIdentifier.{issuer_uid_plain, subject_uid_plain}
 use Rattle.x509_certs.proofs.tbs_reader.TbsReaderReaderX509ErrorTbsCertificate.read_at.Goals as goal
 
-pub returns-clause-reads : goal.returns-clause-reads
+pub returns-3-clause-reads : goal.returns-3-clause-reads
 unfolding tbs
-returns-clause-reads g c = record {
+returns-3-clause-reads g c = record {
   reads = search (rules, marks_of_readers);
   marks = search (rules, marks_of_readers, issuer_uid_plain, subject_uid_plain, and_assoc);
   grows = search rules;
@@ -17,9 +17,9 @@ returns-clause-reads g c = record {
   there = search rules;
 }
 
-pub returns-in-Err-read_wrapped_at-clause-reads : goal.returns-in-Err-read_wrapped_at-clause-reads
+pub returns-2-clause-reads : goal.returns-2-clause-reads
 unfolding tbs
-returns-in-Err-read_wrapped_at-clause-reads g c = record {
+returns-2-clause-reads g c = record {
   reads = search (rules, marks_of_readers);
   marks = search (rules, marks_of_readers);
   grows = search rules;
