@@ -1,15 +1,20 @@
 -- The windows of a signed structure and of its part.
-use Rattle.std.proofs.Common.{◌≡◌, ℕ, List, [], ◌++◌, refl, sym, ap, subst, ◌∙◌}
+use Rattle.std.proofs.Common.{◌≡◌, ℕ, List, [], ◌++◌, refl, sym, ap, subst, ◌∙◌, Result, Ok, Err}
+use Rattle.std.specs.Prelude.{IfOk}
 use Rattle.std.proofs.lemmas.List.{append-nil}
+use Rattle.x509_der.specs.declared.error.Err.{Err as Refusal}
+use Rattle.x509_der.specs.declared.error.Located.{Located}
 use Rattle.x509_der.specs.Elements.{Elem}
-use Rattle.x509_der.specs.Laws.{IsBytes, IsLawful}
+use Rattle.x509_der.specs.Laws.{IsBytes, IsLawful, IsMarked}
 use Rattle.x509_der.specs.Leaves.{sequence}
-use Rattle.x509_der.specs.Plan.{got}
-use Rattle.x509_der.specs.Promises.{IsFront}
+use Rattle.x509_der.specs.Plan.{got, plain_only}
+use Rattle.x509_der.specs.Promises.{IsFront, reason_alone}
 use Rattle.x509_der.specs.Reading.{strict}
 use Rattle.x509_der.proofs.Results.{bytes_behind, bytes_before}
 use Rattle.x509_der.proofs.Sentences.{front_read, front_only}
+use Rattle.x509_der.proofs.Strict.{front_loosely}
 use Rattle.x509_der.proofs.Words.{sequence_laws}
+use Rattle.x509_fields.specs.declared.error.X509Error.{X509Error}
 use Rattle.x509_fields.specs.Fields.{Field, lifted}
 use Rattle.x509_fields.specs.Signed.{Signed, signed, HoldsPart, SignedStands}
 
@@ -79,3 +84,14 @@ pub signed_front_stands : {A : Type 0} (part : Field A) (window : A → List ℕ
     → IsFront (signed part) bytes s rest → SignedStands part window bytes s rest
 signed_front_stands part window is_window laws whole bytes s rest k front =
     signed_stands part window is_window laws whole bytes s rest k (front_only (signed part) whole.agrees whole.is_local bytes s rest k front)
+
+-- one that stands plainly
+pub plain_front_stands : {A : Type 0} (part : Field A) (window : A → List ℕ) → HasWindow part window → IsLawful part → IsLawful (signed part) → IsMarked (signed part) → (why : Refusal X509Error) (bytes : List ℕ) (s : Signed A) (rest : List ℕ) → IsBytes bytes
+    → IsFront (plain_only why (signed part)) bytes s rest → SignedStands part window bytes s rest
+plain_front_stands part window is_window laws whole marked why bytes s rest k front =
+    signed_front_stands part window is_window laws whole bytes s rest k (front_loosely why (signed part) marked bytes s rest k front)
+
+-- what holds of what was read, whether or not a refusal has its place
+pub placed : {E X : Type 0} (P : X → Type 0) (result : Result X (Located E)) → IfOk (reason_alone result) P → IfOk result P
+placed P (Ok x) holds = holds
+placed P (Err e) _ = tt

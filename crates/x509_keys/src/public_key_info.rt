@@ -113,7 +113,8 @@ fn is_identifier(any: &Any<'_>) -> bool
     matches!(header.class, Class::Universal) && !header.constructed && header.tag.0 == 6
 }
 
-/// The key info at a place, and whether it stands plainly; a refusal ends the function. For the reader of certificates, in which it stands in place.
+/// The key info at a place, and whether it stands plainly; a refusal ends the function. For the reader of certificates, in which it stands in place. It names
+/// calls of x509_der and x509_fields, which the crate that uses it needs too.
 #[macro_export]
 macro_rules! key_info_at {
     ($alloc:ident, $tries:ident, $place:expr) => {{

@@ -1,15 +1,11 @@
 -- The windows of a list and of its signed part.
-use Rattle.std.proofs.Common.{◌≡◌, ℕ, List, ◌++◌, ap, ◌∙◌, Result, Ok, Err}
-use Rattle.std.specs.Prelude.{IfOk}
+use Rattle.std.proofs.Common.{◌≡◌, ℕ, List, ◌++◌, ap, ◌∙◌}
 use Rattle.x509_der.specs.Laws.{IsBytes}
-use Rattle.x509_der.specs.Promises.{IsFront, reason_alone}
-use Rattle.x509_der.specs.declared.error.Located.{Located}
+use Rattle.x509_der.specs.Promises.{IsFront}
 use Rattle.x509_der.specs.declared.error.Err.TheVariants.{Error}
-use Rattle.x509_der.proofs.Strict.{front_loosely}
-use Rattle.x509_fields.specs.declared.error.X509Error.{X509Error}
 use Rattle.x509_fields.specs.declared.error.X509Error.TheVariants as x509
 use Rattle.x509_fields.specs.Signed.{Signed}
-use Rattle.x509_fields.proofs.SignedParts.{signed_front_stands}
+use Rattle.x509_fields.proofs.SignedParts.{signed_front_stands, plain_front_stands}
 use Rattle.x509_lists.specs.TbsCertList.{TbsList, tbs_list, tbs_list_laws}
 use Rattle.x509_lists.specs.CertificateList.{certificate_list, certificate_list_laws, plain_list, ListStands}
 
@@ -26,10 +22,6 @@ list_stands bytes s rest k front =
 
 -- one that stands plainly
 pub plain_list_stands : (bytes : List ℕ) (s : Signed TbsList) (rest : List ℕ) → IsBytes bytes → IsFront plain_list bytes s rest → ListStands bytes s rest
+unfolding certificate_list
 plain_list_stands bytes s rest k front =
-    list_stands bytes s rest k (front_loosely (Error x509.Generic) certificate_list certificate_list_laws.marked bytes s rest k front)
-
--- what holds of what was read, whether or not a refusal has its place
-pub placed : {X : Type 0} (P : X → Type 0) (result : Result X (Located X509Error)) → IfOk (reason_alone result) P → IfOk result P
-placed P (Ok x) holds = holds
-placed P (Err e) _ = tt
+    plain_front_stands tbs_list (λ t. t.raw) tbs_list_window tbs_list_laws.laws.lawful certificate_list_laws.laws.lawful certificate_list_laws.marked (Error x509.Generic) bytes s rest k front

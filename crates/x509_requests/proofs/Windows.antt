@@ -1,15 +1,11 @@
 -- The windows of a request and of its info.
-use Rattle.std.proofs.Common.{◌≡◌, ℕ, List, ◌++◌, ap, ◌∙◌, Result, Ok, Err}
-use Rattle.std.specs.Prelude.{IfOk}
+use Rattle.std.proofs.Common.{◌≡◌, ℕ, List, ◌++◌, ap, ◌∙◌}
 use Rattle.x509_der.specs.Laws.{IsBytes}
-use Rattle.x509_der.specs.Promises.{IsFront, reason_alone}
+use Rattle.x509_der.specs.Promises.{IsFront}
 use Rattle.x509_der.specs.declared.error.Err.TheVariants.{Error}
-use Rattle.x509_der.specs.declared.error.Located.{Located}
-use Rattle.x509_der.proofs.Strict.{front_loosely}
-use Rattle.x509_fields.specs.declared.error.X509Error.{X509Error}
 use Rattle.x509_fields.specs.declared.error.X509Error.TheVariants as x509
 use Rattle.x509_fields.specs.Signed.{Signed}
-use Rattle.x509_fields.proofs.SignedParts.{signed_front_stands}
+use Rattle.x509_fields.proofs.SignedParts.{signed_front_stands, plain_front_stands}
 use Rattle.x509_requests.specs.RequestInfo.{RequestInfo, request_info, request_info_laws}
 use Rattle.x509_requests.specs.Request.{certification_request, certification_request_laws, plain_request, RequestStands}
 
@@ -26,10 +22,6 @@ request_stands bytes s rest k front =
 
 -- one that stands plainly
 pub plain_request_stands : (bytes : List ℕ) (s : Signed RequestInfo) (rest : List ℕ) → IsBytes bytes → IsFront plain_request bytes s rest → RequestStands bytes s rest
+unfolding certification_request
 plain_request_stands bytes s rest k front =
-    request_stands bytes s rest k (front_loosely (Error x509.Generic) certification_request certification_request_laws.marked bytes s rest k front)
-
--- what holds of what was read, whether or not a refusal has its place
-pub placed : {X : Type 0} (P : X → Type 0) (result : Result X (Located X509Error)) → IfOk (reason_alone result) P → IfOk result P
-placed P (Ok x) holds = holds
-placed P (Err e) _ = tt
+    plain_front_stands request_info (λ i. i.raw) info_window request_info_laws.laws.lawful certification_request_laws.laws.lawful certification_request_laws.marked (Error x509.Generic) bytes s rest k front

@@ -11,8 +11,8 @@ use x509_general_names::{
     SubjectAlternativeName, SubjectInfoAccess,
 };
 use x509_lists::{
-    CertificateListEntries, CertificateRevocationList, RevokedCertificate, TbsCertList,
-    TbsCertListEntries,
+    CertificateListEntries, CertificateListOf, CertificateRevocationList, RevokedCertificate,
+    TbsCertList, TbsCertListEntries,
 };
 use x509_names::{RelativeDistinguishedName, X509Name};
 use x509_requests::{ExtensionRequest, X509CriAttribute};
@@ -36,17 +36,8 @@ impl<T: PartialEq> Compare<T> for Whole {
 /// By the signed part of a list.
 struct SignedPart;
 
-impl<'a> Compare<CertificateRevocationList<'a>> for SignedPart {
-    fn is_equal(
-        value: &CertificateRevocationList<'a>,
-        copy: &CertificateRevocationList<'a>,
-    ) -> bool {
-        copy.tbs_cert_list == value.tbs_cert_list
-    }
-}
-
-impl<'a> Compare<CertificateListEntries<'a>> for SignedPart {
-    fn is_equal(value: &CertificateListEntries<'a>, copy: &CertificateListEntries<'a>) -> bool {
+impl<'a, R: PartialEq> Compare<CertificateListOf<'a, R>> for SignedPart {
+    fn is_equal(value: &CertificateListOf<'a, R>, copy: &CertificateListOf<'a, R>) -> bool {
         copy.tbs_cert_list == value.tbs_cert_list
     }
 }

@@ -3,13 +3,11 @@
 use crate::show::answer::Answer;
 use crate::show::base::Show;
 use std::alloc::Global;
-use x509_der::UnsignedBytes;
-use x509_fields::{ASN1Time, AlgorithmIdentifier, X509Error, X509Version};
+use x509_fields::X509Error;
 use x509_lists::{
-    CertificateListEntries, CertificateRevocationList, ExtensionIter, RevokedCertificate,
-    RevokedEntries, TbsCertList, TbsCertListEntries,
+    CertificateListEntries, CertificateListOf, CertificateRevocationList, RevokedCertificate,
+    RevokedEntries, TbsCertListOf,
 };
-use x509_names::X509Name;
 
 // Whether an extension is critical, and what it says, where it is there.
 fn put_critical<T: Show>(out: &mut Answer, found: Option<(bool, T)>) {
@@ -46,50 +44,6 @@ impl Show for RevokedCertificate<'_> {
     }
 }
 
-// The fields of a signed part before its entries.
-fn put_issue(
-    out: &mut Answer,
-    version: &Option<X509Version>,
-    signature: &AlgorithmIdentifier<'_>,
-    issuer: &X509Name<'_>,
-    this_update: &ASN1Time,
-    next_update: &Option<ASN1Time>,
-) {
-    out.add("tbl(");
-    version.show(out);
-    out.add(";");
-    signature.show(out);
-    issuer.show(out);
-    this_update.show(out);
-    next_update.show(out);
-    out.add(";");
-}
-
-// What stands behind them.
-fn put_closing(out: &mut Answer, extensions: ExtensionIter<'_, '_>, raw: &[u8]) {
-    for extension in extensions {
-        extension.show(out);
-    }
-    out.add(";");
-    out.hex(raw);
-    out.add(")");
-}
-
-impl Show for TbsCertList<'_> {
-    fn show(&self, out: &mut Answer) {
-        put_issue(
-            out,
-            &self.version,
-            &self.signature,
-            &self.issuer,
-            &self.this_update,
-            &self.next_update,
-        );
-        self.revoked_certificates.show(out);
-        put_closing(out, self.iter_extensions(), self.as_ref());
-    }
-}
-
 /// As the list of them.
 impl Show for RevokedEntries<'_> {
     fn show(&self, out: &mut Answer) {
@@ -104,74 +58,65 @@ impl Show for RevokedEntries<'_> {
     }
 }
 
-impl Show for TbsCertListEntries<'_> {
+impl<R: Show> Show for TbsCertListOf<'_, R> {
     fn show(&self, out: &mut Answer) {
-        put_issue(
-            out,
-            &self.version,
-            &self.signature,
-            &self.issuer,
-            &self.this_update,
-            &self.next_update,
-        );
+        out.add("tbl(");
+        self.version.show(out);
+        out.add(";");
+        self.signature.show(out);
+        self.issuer.show(out);
+        self.this_update.show(out);
+        self.next_update.show(out);
+        out.add(";");
         self.revoked_certificates.show(out);
-        put_closing(out, self.iter_extensions(), self.as_ref());
+        for extension in self.iter_extensions() {
+            extension.show(out);
+        }
+        out.add(";");
+        out.hex(self.as_ref());
+        out.add(")");
     }
 }
 
 // What a list says again behind its window.
-fn put_again(
-    out: &mut Answer,
-    version: Option<X509Version>,
-    issuer: &X509Name<'_>,
-    last_update: ASN1Time,
-    next_update: Option<ASN1Time>,
-    number: Option<&UnsignedBytes<'_>>,
-) {
-    version.show(out);
+fn put_again<R>(out: &mut Answer, list: &CertificateListOf<'_, R>) {
+    list.version().show(out);
     out.add(";");
-    out.hex(issuer.as_raw());
+    out.hex(list.issuer().as_raw());
     out.add(";");
-    last_update.show(out);
-    next_update.show(out);
+    list.last_update().show(out);
+    list.next_update().show(out);
     out.add(";");
-    number.show(out);
+    list.crl_number().show(out);
 }
 
-// How many entries and extensions a list has.
-fn put_counts(out: &mut Answer, entries: usize, extensions: usize) {
+// A list that has so many entries.
+fn put_list<R: Show>(out: &mut Answer, list: &CertificateListOf<'_, R>, entries: usize) {
+    out.add("crl(");
+    list.tbs_cert_list.show(out);
+    list.signature_algorithm.show(out);
+    list.signature_value.show(out);
+    out.add(";");
+    out.hex(list.as_raw());
+    out.add(";");
+    if list.as_ref() != list.as_raw() {
+        out.add("OTHER");
+    }
+    put_again(out, list);
     out.add(";");
     out.display(&entries);
     out.add(";");
-    out.display(&extensions);
+    out.display(&list.extensions().len());
     out.add(")");
 }
 
 impl Show for CertificateRevocationList<'_> {
     fn show(&self, out: &mut Answer) {
-        out.add("crl(");
-        self.tbs_cert_list.show(out);
-        self.signature_algorithm.show(out);
-        self.signature_value.show(out);
-        out.add(";");
-        out.hex(self.as_raw());
-        out.add(";");
-        if self.as_ref() != self.as_raw() {
-            out.add("OTHER");
-        }
-        put_again(
-            out,
-            self.version(),
-            self.issuer(),
-            self.last_update(),
-            self.next_update(),
-            self.crl_number(),
-        );
         let mut entries = 0_usize;
         for _entry in self.iter_revoked_certificates() {
             entries = entries.wrapping_add(1);
         }
-        put_counts(out, entries, self.extensions().len());
+        put_list(out, self, entries);
     }
 }
 
@@ -198,28 +143,11 @@ fn are_serials(alloc: Global, entries: &RevokedEntries<'_>) -> Result<bool, X509
 /// As the list that keeps its entries.
 impl Show for CertificateListEntries<'_> {
     fn show(&self, out: &mut Answer) {
-        out.add("crl(");
-        self.tbs_cert_list.show(out);
-        self.signature_algorithm.show(out);
-        self.signature_value.show(out);
-        out.add(";");
-        out.hex(self.as_raw());
-        out.add(";");
-        if self.as_ref() != self.as_raw() {
-            out.add("OTHER");
-        }
-        put_again(
-            out,
-            self.version(),
-            self.issuer(),
-            self.last_update(),
-            self.next_update(),
-            self.crl_number(),
-        );
         let mut entries = 0_usize;
         for _entry in self.iter_revoked_certificates(out.alloc()) {
             entries = entries.wrapping_add(1);
         }
+        put_list(out, self, entries);
         let revoked = &self.tbs_cert_list.revoked_certificates;
         if revoked.len() != entries || revoked.is_empty() != (entries == 0) {
             out.add("OTHER");
@@ -229,6 +157,5 @@ impl Show for CertificateListEntries<'_> {
             Ok(false) => out.add("OTHER"),
             Err(_) => out.stop(),
         }
-        put_counts(out, entries, self.extensions().len());
     }
 }

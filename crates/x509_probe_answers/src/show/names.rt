@@ -2,7 +2,7 @@
 
 use crate::show::answer::Answer;
 use crate::show::base::{Show, put_all};
-use crate::show::usages::{Hasher, put_digits};
+use crate::show::usages::{Hasher, put_digits, put_flags};
 use std::collections::HashMap;
 use std::fmt;
 use x509_der::Oid;
@@ -137,12 +137,10 @@ impl Show for AuthorityKeyIdentifier<'_> {
 impl Show for ReasonFlags {
     fn show(&self, out: &mut Answer) {
         out.add("rf(");
-        out.display(&self.flags);
-        out.add(";");
-        out.display_hex(self);
-        out.add(";");
-        put_digits(
+        put_flags(
             out,
+            &self.flags,
+            self,
             &[
                 self.key_compromise(),
                 self.ca_compromise(),
@@ -154,7 +152,6 @@ impl Show for ReasonFlags {
                 self.aa_compromise(),
             ],
         );
-        out.add(")");
     }
 }
 

@@ -2,6 +2,7 @@
 
 use crate::show::answer::Answer;
 use crate::show::base::Show;
+use std::fmt;
 use std::hash::{BuildHasherDefault, FoldHasher};
 use x509_fields::ReasonCode;
 use x509_values::{
@@ -20,15 +21,28 @@ pub fn put_digits(out: &mut Answer, truths: &[bool]) {
     }
 }
 
+/// Adds named bits: their number, their text in hex, and each of them as a digit.
+pub fn put_flags<N: fmt::Display, T: fmt::Display>(
+    out: &mut Answer,
+    number: &N,
+    value: &T,
+    flags: &[bool],
+) {
+    out.display(number);
+    out.add(";");
+    out.display_hex(value);
+    out.add(";");
+    put_digits(out, flags);
+    out.add(")");
+}
+
 impl Show for KeyUsage {
     fn show(&self, out: &mut Answer) {
         out.add("ku(");
-        out.display(&self.flags);
-        out.add(";");
-        out.display_hex(self);
-        out.add(";");
-        put_digits(
+        put_flags(
             out,
+            &self.flags,
+            self,
             &[
                 self.digital_signature(),
                 self.non_repudiation(),
@@ -41,19 +55,16 @@ impl Show for KeyUsage {
                 self.decipher_only(),
             ],
         );
-        out.add(")");
     }
 }
 
 impl Show for NSCertType {
     fn show(&self, out: &mut Answer) {
         out.add("ns(");
-        out.display(&self.flags);
-        out.add(";");
-        out.display_hex(self);
-        out.add(";");
-        put_digits(
+        put_flags(
             out,
+            &self.flags,
+            self,
             &[
                 self.ssl_client(),
                 self.ssl_server(),
@@ -64,7 +75,6 @@ impl Show for NSCertType {
                 self.object_signing_ca(),
             ],
         );
-        out.add(")");
     }
 }
 

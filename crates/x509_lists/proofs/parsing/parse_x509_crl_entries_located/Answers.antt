@@ -1,7 +1,8 @@
 use Rattle.std.proofs.Common.{arith}
 use Rattle.std.proofs.lemmas.Result.{IfOk-weaker}
 use Rattle.x509_lists.specs.ListEntries.{list_entries_of}
-use Rattle.x509_lists.proofs.Windows.{list_stands, placed}
+use Rattle.x509_fields.proofs.SignedParts.{placed}
+use Rattle.x509_lists.proofs.Windows.{list_stands}
 use Rattle.x509_lists.proofs.parsing.parse_x509_crl_entries_located.Goals as goal
 
 pub returns-clause-stands : goal.returns-clause-stands

@@ -1,7 +1,8 @@
 use Rattle.std.proofs.Common.{arith}
 use Rattle.std.proofs.lemmas.Result.{IfOk-weaker}
 use Rattle.x509_requests.specs.Request.{certification_request_of}
-use Rattle.x509_requests.proofs.Windows.{request_stands, placed}
+use Rattle.x509_fields.proofs.SignedParts.{placed}
+use Rattle.x509_requests.proofs.Windows.{request_stands}
 use Rattle.x509_requests.proofs.parsing.parse_x509_csr_located.Goals as goal
 
 pub returns-clause-stands : goal.returns-clause-stands
