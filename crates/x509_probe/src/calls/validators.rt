@@ -110,7 +110,7 @@ impl Write for InHex {
 }
 
 // As lines of a writer, up to the line that it refuses.
-fn put_lines(out: &mut Answer, certificate: &X509Certificate<'_>, refused: u32) {
+fn put_lines(certificate: &X509Certificate<'_>, refused: u32, out: &mut Answer) {
     let alloc = out.alloc();
     let mut lines = InHex {
         kept: Answer::new(alloc),
@@ -139,14 +139,14 @@ impl Write for Full {
 }
 
 // As lines of a writer that takes nothing.
-fn put_untaken(out: &mut Answer, certificate: &X509Certificate<'_>) {
+fn put_untaken(certificate: &X509Certificate<'_>, out: &mut Answer) {
     let mut logger = StderrLogger::new(Full);
     let outcome = X509StructureValidator.validate(out.alloc(), certificate, &mut logger);
     put_result(out, outcome);
 }
 
 // By closures, up to the warning that is refused.
-fn put_stopped(out: &mut Answer, certificate: &X509Certificate<'_>, refused: u32) {
+fn put_stopped(certificate: &X509Certificate<'_>, refused: u32, out: &mut Answer) {
     let alloc = out.alloc();
     let mut warnings = Recorder::new(alloc, refused);
     let outcome = certificate.validate(alloc, |text| warnings.keep(" w", text), |_| Ok(()));
@@ -274,7 +274,7 @@ impl Look<TbsCertificate<'_>> for Signed {
 }
 
 // Its extensions, its structure, and by closures.
-fn put_certificate(out: &mut Answer, certificate: &X509Certificate<'_>, refused: u32) {
+fn put_certificate(certificate: &X509Certificate<'_>, refused: u32, out: &mut Answer) {
     run(out, &X509CertificateValidator, certificate, refused);
     out.add("|");
     run(out, &X509StructureValidator, certificate, refused);
@@ -282,7 +282,7 @@ fn put_certificate(out: &mut Answer, certificate: &X509Certificate<'_>, refused:
 }
 
 // By two validators in a chain, and by three.
-fn put_chained(out: &mut Answer, certificate: &X509Certificate<'_>, refused: u32) {
+fn put_chained(certificate: &X509Certificate<'_>, refused: u32, out: &mut Answer) {
     let both = chain(X509StructureValidator, X509CertificateValidator);
     run(out, &both, certificate, refused);
     out.add("|");
@@ -300,12 +300,12 @@ struct Asked<'w> {
 impl Look<X509Certificate<'_>> for Asked<'_> {
     fn look(&self, certificate: &X509Certificate<'_>, out: &mut Answer) {
         match self.word {
-            "check_certificate" => put_certificate(out, certificate, self.refused),
-            "check_chain" => put_chained(out, certificate, self.refused),
-            "check_closures" => put_stopped(out, certificate, self.refused),
+            "check_certificate" => put_certificate(certificate, self.refused, out),
+            "check_chain" => put_chained(certificate, self.refused, out),
+            "check_closures" => put_stopped(certificate, self.refused, out),
             "check_closed_errors" => put_closures(out, certificate, 0, self.refused),
-            "check_untaken_lines" => put_untaken(out, certificate),
-            _ => put_lines(out, certificate, self.refused),
+            "check_untaken_lines" => put_untaken(certificate, out),
+            _ => put_lines(certificate, self.refused, out),
         }
     }
 }

@@ -49,28 +49,33 @@ fn put_parsed(a: &[u8], out: &mut Answer) {
     put_read(out, parse_x509_der(alloc, a));
 }
 
-/// The fields of a certificate by calls of its own.
+// The fields of a certificate by calls of its own.
+fn put_calls(value: &X509Certificate<'_>, out: &mut Answer) {
+    value.version().show(out);
+    out.add(";");
+    out.hex(value.raw_serial());
+    out.add(";");
+    out.made_hex(value.raw_serial_as_string(out.alloc()));
+    out.add(";");
+    out.hex(value.issuer().as_raw());
+    out.add(";");
+    out.hex(value.subject().as_raw());
+    out.add(";");
+    value.validity().show(out);
+    out.add(";");
+    out.hex(value.public_key().raw);
+    out.add(";");
+    out.display(&value.extensions().len());
+    out.add(";");
+    out.hex(value.as_ref());
+}
+
+/// The fields of a certificate.
 struct Fields;
 
 impl Look<X509Certificate<'_>> for Fields {
     fn look(&self, value: &X509Certificate<'_>, out: &mut Answer) {
-        value.version().show(out);
-        out.add(";");
-        out.hex(value.raw_serial());
-        out.add(";");
-        out.made_hex(value.raw_serial_as_string(out.alloc()));
-        out.add(";");
-        out.hex(value.issuer().as_raw());
-        out.add(";");
-        out.hex(value.subject().as_raw());
-        out.add(";");
-        value.validity().show(out);
-        out.add(";");
-        out.hex(value.public_key().raw);
-        out.add(";");
-        out.display(&value.extensions().len());
-        out.add(";");
-        out.hex(value.as_ref());
+        put_calls(value, out);
     }
 }
 

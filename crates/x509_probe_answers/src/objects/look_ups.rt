@@ -59,9 +59,9 @@ fn put_typed<T: Show>(
 #[derive(Clone, Copy)]
 struct LookUps<'o>(Oid<'o>);
 
-// All look-ups of a certificate, or of its signed part, which has the same.
-macro_rules! put_look_ups {
-    ($out:ident, $value:ident, $oid:expr) => {
+// What a certificate has by an identifier, or its signed part, which has the same.
+macro_rules! put_by_identifier {
+    ($out:ident, $value:ident, $oid:ident) => {
         $out.add("find ");
         $value.find_extension($oid).show($out);
         $out.add("|unique ");
@@ -69,6 +69,12 @@ macro_rules! put_look_ups {
         $out.add("|map ");
         let map = $value.extensions_map($out.alloc(), Hasher::new());
         put_map($out, $value.extensions(), map);
+    };
+}
+
+// What it says by calls of their own.
+macro_rules! put_all_typed {
+    ($out:ident, $value:ident) => {
         put_typed($out, "|basic_constraints ", $value.basic_constraints());
         put_typed($out, "|key_usage ", $value.key_usage());
         put_typed($out, "|extended_key_usage ", $value.extended_key_usage());
@@ -82,20 +88,39 @@ macro_rules! put_look_ups {
     };
 }
 
+// What is read stands first in these, before what it is looked up by (docs/WORKING.md, "What a proof costs").
+fn find_in_certificate(value: &X509Certificate<'_>, oid: &Oid<'_>, out: &mut Answer) {
+    put_by_identifier!(out, value, oid);
+}
+
+fn put_certificate(value: &X509Certificate<'_>, out: &mut Answer) {
+    put_all_typed!(out, value);
+}
+
 impl Look<X509Certificate<'_>> for LookUps<'_> {
     fn look(&self, value: &X509Certificate<'_>, out: &mut Answer) {
-        put_look_ups!(out, value, &self.0);
+        find_in_certificate(value, &self.0, out);
+        put_certificate(value, out);
     }
+}
+
+fn find_in_tbs(value: &TbsCertificate<'_>, oid: &Oid<'_>, out: &mut Answer) {
+    put_by_identifier!(out, value, oid);
+}
+
+fn put_tbs(value: &TbsCertificate<'_>, out: &mut Answer) {
+    put_all_typed!(out, value);
 }
 
 impl Look<TbsCertificate<'_>> for LookUps<'_> {
     fn look(&self, value: &TbsCertificate<'_>, out: &mut Answer) {
-        put_look_ups!(out, value, &self.0);
+        find_in_tbs(value, &self.0, out);
+        put_tbs(value, out);
     }
 }
 
 // The look-ups of an entry.
-fn put_entry(out: &mut Answer, entry: &RevokedCertificate<'_>, oid: &Oid<'_>) {
+fn put_entry(entry: &RevokedCertificate<'_>, oid: &Oid<'_>, out: &mut Answer) {
     out.add("|entry ");
     entry.find_extension(oid).show(out);
     out.add(" ");
@@ -103,34 +128,44 @@ fn put_entry(out: &mut Answer, entry: &RevokedCertificate<'_>, oid: &Oid<'_>) {
     put_map(out, entry.extensions(), map);
 }
 
+// The look-ups of a list.
+fn find_in_list(list: &TbsCertList<'_>, oid: &Oid<'_>, out: &mut Answer) {
+    out.add("find ");
+    list.find_extension(oid).show(out);
+    out.add("|map ");
+    let map = list.extensions_map(out.alloc(), Hasher::new());
+    put_map(out, list.extensions(), map);
+}
+
 impl Look<CertificateRevocationList<'_>> for LookUps<'_> {
     fn look(&self, value: &CertificateRevocationList<'_>, out: &mut Answer) {
         let list = &value.tbs_cert_list;
-        out.add("find ");
-        list.find_extension(&self.0).show(out);
-        out.add("|map ");
-        let map = list.extensions_map(out.alloc(), Hasher::new());
-        put_map(out, list.extensions(), map);
+        find_in_list(list, &self.0, out);
         for entry in list.revoked_certificates.as_slice() {
-            put_entry(out, entry, &self.0);
+            put_entry(entry, &self.0, out);
         }
+    }
+}
+
+// The look-ups of a request.
+fn find_in_request(info: &X509CertificationRequestInfo<'_>, oid: &Oid<'_>, out: &mut Answer) {
+    out.add("find ");
+    info.find_attribute(oid).show(out);
+    out.add("|map ");
+    match info.attributes_map(out.alloc(), Hasher::new()) {
+        Ok(map) => {
+            out.display(&map.len());
+            for attribute in info.attributes() {
+                map.get(&attribute.oid).copied().show(out);
+            }
+        }
+        Err(kind) => out.error(&kind),
     }
 }
 
 impl Look<X509CertificationRequestInfo<'_>> for LookUps<'_> {
     fn look(&self, info: &X509CertificationRequestInfo<'_>, out: &mut Answer) {
-        out.add("find ");
-        info.find_attribute(&self.0).show(out);
-        out.add("|map ");
-        match info.attributes_map(out.alloc(), Hasher::new()) {
-            Ok(map) => {
-                out.display(&map.len());
-                for attribute in info.attributes() {
-                    map.get(&attribute.oid).copied().show(out);
-                }
-            }
-            Err(kind) => out.error(&kind),
-        }
+        find_in_request(info, &self.0, out);
     }
 }
 

@@ -79,7 +79,7 @@ impl<R: Show> Show for TbsCertListOf<'_, R> {
 }
 
 // What a list says again behind its window.
-fn put_again<R>(out: &mut Answer, list: &CertificateListOf<'_, R>) {
+fn put_again<R>(list: &CertificateListOf<'_, R>, out: &mut Answer) {
     list.version().show(out);
     out.add(";");
     out.hex(list.issuer().as_raw());
@@ -91,7 +91,7 @@ fn put_again<R>(out: &mut Answer, list: &CertificateListOf<'_, R>) {
 }
 
 // A list that has so many entries.
-fn put_list<R: Show>(out: &mut Answer, list: &CertificateListOf<'_, R>, entries: usize) {
+fn put_list<R: Show>(list: &CertificateListOf<'_, R>, entries: usize, out: &mut Answer) {
     out.add("crl(");
     list.tbs_cert_list.show(out);
     list.signature_algorithm.show(out);
@@ -102,7 +102,7 @@ fn put_list<R: Show>(out: &mut Answer, list: &CertificateListOf<'_, R>, entries:
     if list.as_ref() != list.as_raw() {
         out.add("OTHER");
     }
-    put_again(out, list);
+    put_again(list, out);
     out.add(";");
     out.display(&entries);
     out.add(";");
@@ -116,7 +116,7 @@ impl Show for CertificateRevocationList<'_> {
         for _entry in self.iter_revoked_certificates() {
             entries = entries.wrapping_add(1);
         }
-        put_list(out, self, entries);
+        put_list(self, entries, out);
     }
 }
 
@@ -147,7 +147,7 @@ impl Show for CertificateListEntries<'_> {
         for _entry in self.iter_revoked_certificates(out.alloc()) {
             entries = entries.wrapping_add(1);
         }
-        put_list(out, self, entries);
+        put_list(self, entries, out);
         let revoked = &self.tbs_cert_list.revoked_certificates;
         if revoked.len() != entries || revoked.is_empty() != (entries == 0) {
             out.add("OTHER");

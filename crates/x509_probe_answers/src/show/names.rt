@@ -136,9 +136,9 @@ impl Show for AuthorityKeyIdentifier<'_> {
 
 impl Show for ReasonFlags {
     fn show(&self, out: &mut Answer) {
-        out.add("rf(");
         put_flags(
             out,
+            "rf",
             &self.flags,
             self,
             &[

@@ -21,13 +21,16 @@ pub fn put_digits(out: &mut Answer, truths: &[bool]) {
     }
 }
 
-/// Adds named bits: their number, their text in hex, and each of them as a digit.
+/// Adds named bits: in brackets behind a word their number, their text in hex, and each of them as a digit.
 pub fn put_flags<N: fmt::Display, T: fmt::Display>(
     out: &mut Answer,
+    word: &str,
     number: &N,
     value: &T,
     flags: &[bool],
 ) {
+    out.add(word);
+    out.add("(");
     out.display(number);
     out.add(";");
     out.display_hex(value);
@@ -38,9 +41,9 @@ pub fn put_flags<N: fmt::Display, T: fmt::Display>(
 
 impl Show for KeyUsage {
     fn show(&self, out: &mut Answer) {
-        out.add("ku(");
         put_flags(
             out,
+            "ku",
             &self.flags,
             self,
             &[
@@ -60,9 +63,9 @@ impl Show for KeyUsage {
 
 impl Show for NSCertType {
     fn show(&self, out: &mut Answer) {
-        out.add("ns(");
         put_flags(
             out,
+            "ns",
             &self.flags,
             self,
             &[
