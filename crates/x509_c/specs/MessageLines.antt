@@ -1,8 +1,8 @@
 -- A logger that writes each message as a line.
 use Rattle.std.specs.Prelude.{◌≡◌, ℕ, List, [], ◌∷◌, ◌++◌, codes, MatchResult}
-use Rattle.std.specs.String.{string_bytes}
 use Rattle.x509_fields.specs.declared.error.X509Error.TheVariants.{OutOfMemory}
 use Rattle.x509_report_lines.specs.Escape.{escaped}
+use Rattle.x509_report_lines.specs.Kept.{kept}
 use Rattle.x509_validators.specs.Message.{Message, warning, error, Logged}
 use Rattle.x509_c.specs.declared.validation.MessageLines.{MessageLines}
 
@@ -13,4 +13,4 @@ message_line (error text) = codes "error: " ++ (escaped text ++ 10 ∷ [])
 
 -- the line is added behind those that stand there, or memory ran out
 abbrev pub adds_line : MessageLines → Message → Logged → MessageLines → Type 0
-adds_line s m r t = MatchResult r (λ _. string_bytes t.text ≡ string_bytes s.text ++ message_line m) (λ e. e ≡ OutOfMemory)
+adds_line s m r t = MatchResult r (λ _. t.text ≡ kept (s.text.so_far ++ message_line m)) (λ e. e ≡ OutOfMemory)

@@ -46,7 +46,7 @@ pub extern "C" fn rtv_json(
         label: None,
     };
     let mut line = Line::new(alloc);
-    match object_line(alloc, &mut line, &wishes(kind, strict), &place, der) {
+    match object_line(&mut line, &wishes(kind, strict), &place, der) {
         Ok(Some(_)) => {
             *length = put_text(line.into_text().as_slice(), text);
             OK

@@ -1,35 +1,41 @@
 //! What validators tell of certificates, as lines.
 
-ghost use Rattle.std.specs.Prelude.{◌≡◌, ◌++◌, ◌∷◌, [], IfOk, OnOk, true};
+ghost use Rattle.std.specs.Prelude.{◌≡◌, ◌++◌, ◌∷◌, [], IfOk, MatchResult, true};
 ghost use Rattle.std.specs.String.{string_bytes};
 ghost use Rattle.x509_certs.specs.Certificate.{certificate, certificate_of};
+ghost use Rattle.x509_fields.specs.declared.error.X509Error.TheVariants.{OutOfMemory};
 ghost use Rattle.x509_report_lines.specs.Escape.{escaped};
+ghost use Rattle.x509_report_lines.specs.Kept.{kept};
 ghost use Rattle.x509_c.specs.Tells.{Tells, Done};
 ghost use Rattle.x509_c.specs.Validation.{ShowsValidation, is_sound, message_lines, validation_messages};
 
 use crate::status::{OK, OUT_OF_MEMORY, refused};
 use crate::text::put_text;
-use std::alloc::{AllocError, Global};
+use std::alloc::Global;
 use x509_certs::X509Certificate;
 use x509_der::FromDer;
 use x509_fields::X509Error;
-use x509_report_lines::push_escaped;
+use x509_report_lines::{Text, push_escaped};
 use x509_validators::{Logger, Validator, X509CertificateValidator, X509StructureValidator, chain};
 
 /// A logger that writes each message as a line.
 #[derive(Drop)]
 struct MessageLines {
-    text: String,
+    text: Text,
 }
 
 impl MessageLines {
-    /// Adds the line of a message at this level.
-    fn add(&mut self, level: &str, message: &str) -> Result<(), AllocError>
-        ensures { OnOk result (string_bytes self.new.text ≡ string_bytes self.old.text ++ (level.now ++ (escaped message.now ++ 10 ∷ []))) }
+    /// Adds the line of a message at this level. The only refusal is `OutOfMemory`.
+    fn add(&mut self, level: &str, message: &str) -> Result<(), X509Error>
+        ensures { MatchResult result (λ _. self.new.text ≡ kept (self.old.text.so_far ++ (level.now ++ (escaped message.now ++ 10 ∷ [])))) (λ e. e ≡ OutOfMemory) }
     {
-        self.text.push_str(level)?;
-        push_escaped(&mut self.text, message)?;
-        self.text.push('\n')
+        self.text.push_str(level);
+        push_escaped(&mut self.text, message);
+        self.text.push('\n');
+        match self.text.finish() {
+            Ok(()) => Ok(()),
+            Err(_) => Err(X509Error::OutOfMemory),
+        }
     }
 }
 
@@ -40,17 +46,11 @@ impl Logger for MessageLines {
     ghost step = { adds_line };
 
     fn warn(&mut self, message: &str) -> Result<(), X509Error> {
-        match self.add("warning: ", message) {
-            Ok(()) => Ok(()),
-            Err(_) => Err(X509Error::OutOfMemory),
-        }
+        self.add("warning: ", message)
     }
 
     fn err(&mut self, message: &str) -> Result<(), X509Error> {
-        match self.add("error: ", message) {
-            Ok(()) => Ok(()),
-            Err(_) => Err(X509Error::OutOfMemory),
-        }
+        self.add("error: ", message)
     }
 }
 
@@ -61,12 +61,15 @@ fn told(alloc: Global, certificate: &X509Certificate<'_>) -> Result<(bool, Strin
     ensures lines { IfOk result (λ r. string_bytes r.1 ≡ message_lines (validation_messages (certificate_of certificate.now))) }
 {
     let mut lines = MessageLines {
-        text: String::new(alloc),
+        text: Text::new(alloc),
     };
     let validator = chain(X509StructureValidator, X509CertificateValidator);
     let sound = validator.validate(alloc, certificate, &mut lines)?;
     let MessageLines { text } = lines;
-    Ok((sound, text))
+    match text.into_string() {
+        Ok(text) => Ok((sound, text)),
+        Err(_) => Err(X509Error::OutOfMemory),
+    }
 }
 
 /// Reads the certificate at the front of the buffer, and writes what the validators of its structure and of its extensions tell, a line

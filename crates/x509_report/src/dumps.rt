@@ -3,6 +3,7 @@
 
 ghost use Rattle.std.specs.Prelude.{◌≡◌, ◌++◌, ◌+◌, ◌≤◌, length, nat_lt, IfOk, IsOk, OnOk, string_bytes};
 ghost use Rattle.x509_elements.specs.Elements.{elements_of, line_of};
+ghost use Rattle.x509_report_lines.specs.Kept.{Grows};
 ghost use Rattle.x509_report_objects.specs.Attempts.{wishes_of};
 ghost use Rattle.x509_report.specs.Dumps.{count_found, count_in, dump_lines, dump_told, element_line, end_told, found_lines, held, holds, mark, mark_behind};
 ghost use Rattle.x509_report.specs.Dumps.{mark_in, marked_lines, marks_behind, open_found, open_told, refusal_words, section_end, section_page};
@@ -20,7 +21,7 @@ use x509_der::Located;
 use x509_elements::{DumpLine, Part, RefusedValue, behind, dump, refused_values};
 use x509_fields::X509Error;
 use x509_report_lines::html::{push_closings, push_element, push_mark, push_octets};
-use x509_report_lines::push_line;
+use x509_report_lines::{Text, push_line};
 use x509_report_objects::Wishes;
 
 /// Why a reader refuses, in words.
@@ -45,33 +46,23 @@ fn value_words(alloc: Global, value: &RefusedValue) -> Result<String, AllocError
 }
 
 /// Adds a mark at an octet, with these words: in a page an element, else a line of its own.
-fn push_mark_at(
-    alloc: Global,
-    form: Form,
-    text: &mut String,
-    at: usize,
-    words: &str,
-) -> Result<(), AllocError>
-    ensures { OnOk result (string_bytes text.new ≡ string_bytes text.old ++ mark form at words.now) }
+fn push_mark_at(form: Form, text: &mut Text, at: usize, words: &str)
+    ensures { Grows text.old text.new (mark form at words.now) }
 {
     match form {
-        Form::Html => push_mark(alloc, text, at, words),
-        Form::Json | Form::Text => write!(text, "{at:>5}:^ {words}\n"),
+        Form::Html => push_mark(text, at, words),
+        Form::Json | Form::Text => text.display(&format_args!("{at:>5}:^ {words}\n")),
     }
 }
 
 /// Adds the mark of a reader's refusal.
-fn push_refusal(
-    alloc: Global,
-    form: Form,
-    text: &mut String,
-    part: Part,
-    refusal: &Located<X509Error>,
-) -> Result<(), AllocError>
-    ensures { OnOk result (string_bytes text.new ≡ string_bytes text.old ++ mark form refusal.now.at (refusal_words part refusal.now)) }
+fn push_refusal(form: Form, text: &mut Text, part: Part, refusal: &Located<X509Error>)
+    ensures { Grows text.old text.new (mark form refusal.now.at (refusal_words part refusal.now)) }
 {
-    let words = refusal_words(alloc, part, refusal)?;
-    push_mark_at(alloc, form, text, refusal.at, words.as_str())
+    match refusal_words(text.alloc(), part, refusal) {
+        Ok(words) => push_mark_at(form, text, refusal.at, words.as_str()),
+        Err(_) => text.stop(),
+    }
 }
 
 /// Whether a line holds an octet.
@@ -82,42 +73,24 @@ fn holds(line: &DumpLine<'_>, at: usize) -> bool
 }
 
 /// Adds the mark of the reader's refusal, where the line holds the octet.
-fn push_mark_in(
-    alloc: Global,
-    form: Form,
-    text: &mut String,
-    view: &View,
-    line: &DumpLine<'_>,
-) -> Result<(), AllocError>
-    ensures { OnOk result (string_bytes text.new ≡ string_bytes text.old ++ mark_in form view.now (line_of line.now)) }
+fn push_mark_in(form: Form, text: &mut Text, view: &View, line: &DumpLine<'_>)
+    ensures { Grows text.old text.new (mark_in form view.now (line_of line.now)) }
 {
-    match view {
-        View::Refused(part, refusal) => if holds(line, refusal.at) {
-            push_refusal(alloc, form, text, *part, refusal)
-        } else {
-            Ok(())
-        },
-        View::Nothing | View::Taken(_) => Ok(()),
+    if let View::Refused(part, refusal) = view {
+        if holds(line, refusal.at) {
+            push_refusal(form, text, *part, refusal);
+        }
     }
 }
 
 /// Adds that mark behind the last line, where the octet is none of the object.
-fn push_mark_behind(
-    alloc: Global,
-    form: Form,
-    text: &mut String,
-    view: &View,
-    octets: &[u8],
-) -> Result<(), AllocError>
-    ensures { OnOk result (string_bytes text.new ≡ string_bytes text.old ++ mark_behind form view.now octets.now) }
+fn push_mark_behind(form: Form, text: &mut Text, view: &View, octets: &[u8])
+    ensures { Grows text.old text.new (mark_behind form view.now octets.now) }
 {
-    match view {
-        View::Refused(part, refusal) => if octets.len() <= refusal.at {
-            push_refusal(alloc, form, text, *part, refusal)
-        } else {
-            Ok(())
-        },
-        View::Nothing | View::Taken(_) => Ok(()),
+    if let View::Refused(part, refusal) = view {
+        if octets.len() <= refusal.at {
+            push_refusal(form, text, *part, refusal);
+        }
     }
 }
 
@@ -155,49 +128,34 @@ fn count_in(values: &[RefusedValue], line: &DumpLine<'_>) -> usize
 }
 
 /// Adds the mark of a value that is refused.
-fn push_value_mark(
-    alloc: Global,
-    form: Form,
-    text: &mut String,
-    value: &RefusedValue,
-) -> Result<(), AllocError>
-    ensures { OnOk result (string_bytes text.new ≡ string_bytes text.old ++ mark form value.now.at (value_words value.now)) }
+fn push_value_mark(form: Form, text: &mut Text, value: &RefusedValue)
+    ensures { Grows text.old text.new (mark form value.now.at (value_words value.now)) }
 {
-    let words = value_words(alloc, value)?;
-    push_mark_at(alloc, form, text, value.at, words.as_str())
+    match value_words(text.alloc(), value) {
+        Ok(words) => push_mark_at(form, text, value.at, words.as_str()),
+        Err(_) => text.stop(),
+    }
 }
 
 /// Adds a mark for each value.
-fn push_value_marks(
-    alloc: Global,
-    form: Form,
-    text: &mut String,
-    values: &[RefusedValue],
-) -> Result<(), AllocError>
-    ensures { OnOk result (string_bytes text.new ≡ string_bytes text.old ++ value_marks form values.now) }
+fn push_value_marks(form: Form, text: &mut Text, values: &[RefusedValue])
+    ensures { Grows text.old text.new (value_marks form values.now) }
 {
     for value in values {
-        push_value_mark(alloc, form, text, value)?;
+        push_value_mark(form, text, value);
     }
-    Ok(())
 }
 
 /// Adds the line of an element, where so many parts of a page are open. Tells how many are open behind it.
-fn push_told(
-    alloc: Global,
-    form: Form,
-    text: &mut String,
-    opened: usize,
-    line: &DumpLine<'_>,
-) -> Result<usize, AllocError>
-    ensures text { OnOk result (string_bytes text.new ≡ string_bytes text.old ++ element_line form opened (line_of line.now)) }
-    ensures opened { IfOk result (λ n. n ≡ open_told form (line_of line.now)) }
+fn push_told(form: Form, text: &mut Text, opened: usize, line: &DumpLine<'_>) -> usize
+    ensures text { Grows text.old text.new (element_line form opened (line_of line.now)) }
+    ensures opened { result ≡ open_told form (line_of line.now) }
 {
     match form {
-        Form::Html => push_element(alloc, text, opened, line),
+        Form::Html => push_element(text, opened, line),
         Form::Json | Form::Text => {
-            push_line(alloc, text, line)?;
-            Ok(0)
+            push_line(text, line);
+            0
         }
     }
 }
@@ -216,46 +174,37 @@ fn line_text(
         ≡ element_line form opened (line_of line.now) ++ (mark_in form view.now (line_of line.now) ++ value_marks form values.now)) }
     ensures opened { IfOk result (λ r. r.1 ≡ open_told form (line_of line.now)) }
 {
-    let mut text = String::new(alloc);
-    let open = push_told(alloc, form, &mut text, opened, line)?;
-    push_mark_in(alloc, form, &mut text, view, line)?;
-    push_value_marks(alloc, form, &mut text, values)?;
-    Ok((text, open))
+    let mut text = Text::new(alloc);
+    let open = push_told(form, &mut text, opened, line);
+    push_mark_in(form, &mut text, view, line);
+    push_value_marks(form, &mut text, values);
+    Ok((text.into_string()?, open))
 }
 
 /// Adds the marks behind the last line: of values that are left, and of the object where the octet is none of it.
 #[tactic(auto, unfolding(crate::specs::Dumps::marks_behind))]
 fn push_marks_behind(
-    alloc: Global,
     form: Form,
-    text: &mut String,
+    text: &mut Text,
     view: &View,
     octets: &[u8],
     values: &[RefusedValue],
-) -> Result<(), AllocError>
-    ensures { OnOk result (string_bytes text.new ≡ string_bytes text.old ++ marks_behind form view.now octets.now values.now) }
+)
+    ensures { Grows text.old text.new (marks_behind form view.now octets.now values.now) }
 {
-    push_value_marks(alloc, form, text, values)?;
-    push_mark_behind(alloc, form, text, view, octets)
+    push_value_marks(form, text, values);
+    push_mark_behind(form, text, view, octets);
 }
 
 /// Adds what stands behind the last line of a page, where so many parts are open and these values are left.
 #[tactic(auto, unfolding(crate::specs::Dumps::section_end))]
-fn push_end(
-    alloc: Global,
-    page: &mut String,
-    view: &View,
-    octets: &[u8],
-    values: &[RefusedValue],
-    opened: usize,
-) -> Result<(), AllocError>
-    ensures { OnOk result (string_bytes page.new ≡ string_bytes page.old ++ section_end view.now octets.now values.now opened) }
+fn push_end(page: &mut Text, view: &View, octets: &[u8], values: &[RefusedValue], opened: usize)
+    ensures { Grows page.old page.new (section_end view.now octets.now values.now opened) }
 {
-    push_closings(page, opened)?;
-    push_marks_behind(alloc, Form::Html, page, view, octets, values)?;
-    push_octets(page, octets)?;
-    page.push_str("</section>\n")?;
-    Ok(())
+    push_closings(page, opened);
+    push_marks_behind(Form::Html, page, view, octets, values);
+    push_octets(page, octets);
+    page.push_str("</section>\n");
 }
 
 /// What stands behind the last line.
@@ -269,14 +218,12 @@ fn end_text(
 ) -> Result<String, AllocError>
     ensures { IfOk result (λ text. string_bytes text ≡ end_told form view.now octets.now values.now opened) }
 {
-    let mut text = String::new(alloc);
+    let mut text = Text::new(alloc);
     match form {
-        Form::Html => push_end(alloc, &mut text, view, octets, values, opened)?,
-        Form::Json | Form::Text => {
-            push_marks_behind(alloc, form, &mut text, view, octets, values)?;
-        }
+        Form::Html => push_end(&mut text, view, octets, values, opened),
+        Form::Json | Form::Text => push_marks_behind(form, &mut text, view, octets, values),
     }
-    Ok(text)
+    text.into_string()
 }
 
 /// A line that was found, where so many parts are open, with the marks of those of the values that stand below it. Tells how many parts are

@@ -3,6 +3,7 @@
 ghost use Rattle.std.specs.Prelude.{◌≡◌, ◌∷◌, [], IfOk, string_bytes};
 ghost use Rattle.std.specs.Str.{IsUtf8};
 ghost use Rattle.json.specs.Lex.{tokens};
+ghost use Rattle.x509_report_lines.specs.Kept.{kept};
 ghost use Rattle.x509_report_lines.specs.Lines.{text_of};
 ghost use Rattle.x509_report.specs.Texts.{article_page, begun, line_text, object_lines};
 ghost use Rattle.x509_report.specs.Told.{Prints};
@@ -64,17 +65,17 @@ impl<W: Write> Printer<W> {
 
     /// A line with nothing on it.
     pub fn line(&mut self, alloc: Global) -> Line
-        ensures empty { result ≡ [] }
+        ensures empty { result ≡ kept [] }
         ensures out { self.new.out ≡ self.old.out }
         ensures form { self.new.form ≡ self.old.form }
     {
-        Line::over(mem::replace(&mut self.memory, Vec::new(alloc)))
+        Line::over(alloc, mem::replace(&mut self.memory, Vec::new(alloc)))
     }
 
     /// Writes a line.
     #[tactic(auto, using(crate::proofs::Leads::writing))]
     pub fn put(&mut self, alloc: Global, line: Line) -> Result<(), Stop>
-        ensures { Prints W.contents self.old self.new (line_text self.old.form line ∷ []) result }
+        ensures { Prints W.contents self.old self.new (line_text self.old.form line.so_far ∷ []) result }
     {
         let mut text = line.into_text();
         match self.form {
@@ -107,7 +108,7 @@ impl<W: Write> Printer<W> {
 
     /// Writes the line of an object, with which its item of a page begins.
     pub fn put_object(&mut self, alloc: Global, line: Line) -> Result<(), Stop>
-        ensures { Prints W.contents self.old self.new (object_lines self.old.form line) result }
+        ensures { Prints W.contents self.old self.new (object_lines self.old.form line.so_far) result }
     {
         self.begin()?;
         self.put(alloc, line)

@@ -34,7 +34,7 @@ fn report_entry<W: Write>(
         ((said printer.old.form (entry_report (found_of place.now) fingerprint.now number (revoked_of entry.now))) ∷ []) result }
 {
     let mut line = printer.line(alloc);
-    entry_line(alloc, &mut line, place, fingerprint, number, entry)?;
+    entry_line(&mut line, place, fingerprint, number, entry)?;
     printer.put(alloc, line)
 }
 
@@ -157,7 +157,7 @@ fn report_line<W: Write>(
         (object_said printer.old.form (object_told (wishes_of wishes.now) (found_of place.now) octets.now).1) result }
 {
     let mut line = printer.line(alloc);
-    let kind = object_line(alloc, &mut line, wishes, place, octets)?;
+    let kind = object_line(&mut line, wishes, place, octets)?;
     printer.put_object(alloc, line)?;
     Ok(kind)
 }
@@ -192,7 +192,7 @@ pub fn report_failed<W: Write>(
         (one printer.old.form false (failed_report (wishes_of asked.now.wishes) (found_of place.now) octets.now kind.now word.now)) result }
 {
     let mut line = printer.line(alloc);
-    failed_line(alloc, &mut line, &asked.wishes, place, octets, kind, word)?;
+    failed_line(&mut line, &asked.wishes, place, octets, kind, word)?;
     printer.put_object(alloc, line)?;
     Ok(false)
 }
@@ -209,7 +209,7 @@ pub fn report_skipped<W: Write>(
         (one printer.old.form true (skipped_report (wishes_of asked.now.wishes) (found_of place.now) octets.now)) result }
 {
     let mut line = printer.line(alloc);
-    skipped_line(alloc, &mut line, &asked.wishes, place, octets)?;
+    skipped_line(&mut line, &asked.wishes, place, octets)?;
     printer.put_object(alloc, line)?;
     Ok(true)
 }

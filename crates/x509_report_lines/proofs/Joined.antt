@@ -1,5 +1,5 @@
 -- What is shown of texts.
-use Rattle.std.proofs.Common.{◌≡◌, ℕ, Bool, true, false, cond, List, ◌++◌, Some, None, Result, Ok, Err, OnOk, refl, sym, ap, ◌∙◌, append_assoc}
+use Rattle.std.proofs.Common.{◌≡◌, ℕ, Bool, true, false, cond, List, ◌++◌, Some, None, refl, sym, ap, ◌∙◌, append_assoc}
 use Rattle.std.specs.Str.{IsUtf8, is_utf8}
 use Rattle.std.proofs.lemmas.Str.{IsUtf8-from_is_utf8, is_utf8-from_IsUtf8}
 use Rattle.x509_report_lines.proofs.Shown.{escaped_shown}
@@ -21,13 +21,5 @@ both old mid new a b e f = f ∙ ap (λ (t : List ℕ). t ++ b) e ∙ append_ass
 
 pub both_as : (old mid new a b c : List ℕ) → mid ≡ old ++ a → new ≡ mid ++ b → b ≡ c → new ≡ old ++ (a ++ c)
 both_as old mid new a b c e f is = both old mid new a b e f ∙ ap (λ (t : List ℕ). old ++ (a ++ t)) is
-
-pub last : {A E : Type 0} (r : Result A E) (old mid new a b : List ℕ) → mid ≡ old ++ a → OnOk r (new ≡ mid ++ b) → OnOk r (new ≡ old ++ (a ++ b))
-last (Ok x) old mid new a b e f = both old mid new a b e f
-last (Err x) old mid new a b e f = f
-
-pub last_as : {A E : Type 0} (r : Result A E) (old mid new a b c : List ℕ) → mid ≡ old ++ a → OnOk r (new ≡ mid ++ b) → b ≡ c → OnOk r (new ≡ old ++ (a ++ c))
-last_as (Ok x) old mid new a b c e f is = both_as old mid new a b c e f is
-last_as (Err x) old mid new a b c e f is = f
 
 pub ruleset texts = (is_text, no_text, escaped_shown)

@@ -1,10 +1,11 @@
 -- What `written` is.
-use Rattle.std.proofs.Common.{◌≡◌, ◌++◌, ◌∷◌, [], List, refl, ap, sym, ◌∙◌, append_assoc, map, flat_map}
+use Rattle.std.proofs.Common.{◌≡◌, ◌++◌, ◌∷◌, [], List, Result, Ok, Err, OnOk, false, refl, ap, sym, ◌∙◌, append_assoc, map, flat_map}
 use Rattle.std.proofs.lemmas.List.Sums.{fold-append}
 use Rattle.json.specs.Token.{Token}
 use Rattle.json.specs.Json.{Json, null, boolean, number, string, array, object, Items, no_items, item, Members, no_members, member}
 use Rattle.json.specs.Tree.{json_tokens, items_tokens, members_tokens}
-use Rattle.x509_report_lines.specs.Says.{written, items_written, members_written, items_of, each_written, each_in_written}
+use Rattle.x509_report_lines.specs.Kept.{kept}
+use Rattle.x509_report_lines.specs.Says.{OnLine, Says, SaysWhole, written, items_written, members_written, items_of, each_written, each_in_written}
 
 -- the tokens of the value, behind those before
 mutual
@@ -43,3 +44,10 @@ each_in_flat say values ts (x ∷ xs) =
 -- the tokens of a value that stands alone
 pub written_first : (j : Json) → written [] j ≡ json_tokens j
 written_first j = written_tokens [] j
+
+-- a value that is said, of a line that didn't stop
+pub said_whole : {A E : Type 0} (r : Result A E) (old new : OnLine) (j : Json) → Says old new j → OnOk r (new.stopped ≡ false) → SaysWhole r old new j
+said_whole (Ok x) old new j says whole =
+    let said = says whole in
+    (said.0, ap (λ stopped. record { so_far = new.so_far; stopped = stopped }) whole ∙ ap kept said.1)
+said_whole (Err e) old new j says whole = whole

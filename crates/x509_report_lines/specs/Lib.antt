@@ -2,6 +2,7 @@ pub mod Blocks
 pub mod Elements
 pub mod Escape
 pub mod Flags
+pub mod Kept
 pub mod Lines
 pub mod Says
 pub mod Texts

@@ -1,9 +1,10 @@
 //! Texts that can't forge a line.
 
-ghost use Rattle.std.specs.Prelude.{◌≡◌, ◌++◌, OnOk, string_bytes};
+ghost use Rattle.std.specs.Prelude.{◌≡◌};
 ghost use Rattle.x509_report_lines.specs.Escape.{escaped, escaped_char, is_hidden};
+ghost use Rattle.x509_report_lines.specs.Kept.{Grows};
 
-use std::alloc::AllocError;
+use crate::text::Text;
 
 /// Whether a character could forge a line or hide text.
 fn is_hidden(c: char) -> bool
@@ -26,23 +27,22 @@ fn is_hidden(c: char) -> bool
 
 /// Adds a character as it is shown.
 #[tactic(auto, unfolding(crate::specs::Escape::escaped_char))]
-fn push_char(out: &mut String, c: char) -> Result<(), AllocError>
-    ensures { OnOk result (string_bytes out.new ≡ string_bytes out.old ++ escaped_char c) }
+fn push_char(out: &mut Text, c: char)
+    ensures { Grows out.old out.new (escaped_char c) }
 {
     if is_hidden(c) {
         let number = u32::from(c);
-        write!(out, "\\u{{{number:x}}}")
+        out.display(&format_args!("\\u{{{number:x}}}"));
     } else {
-        out.push(c)
+        out.push(c);
     }
 }
 
 /// Adds a text as it is shown: each character that could forge a line or hide text by its number.
-pub fn push_escaped(out: &mut String, text: &str) -> Result<(), AllocError>
-    ensures { OnOk result (string_bytes out.new ≡ string_bytes out.old ++ escaped text.now) }
+pub fn push_escaped(out: &mut Text, text: &str)
+    ensures { Grows out.old out.new (escaped text.now) }
 {
     for c in text.chars() {
-        push_char(out, c)?;
+        push_char(out, c);
     }
-    Ok(())
 }

@@ -4,6 +4,7 @@
 #![tactic(auto)]
 
 mod blocks;
+mod element_line;
 mod elements;
 mod escape;
 mod flags;
@@ -13,9 +14,10 @@ mod page;
 mod text;
 
 pub use blocks::{Block, find_blocks};
+pub use element_line::{push_called, push_cut, push_line, push_octets, push_tag, push_value};
 pub use elements::split_elements;
 pub use escape::push_escaped;
 pub use flags::set_words_under;
 pub use line::Line;
 pub use page::lines_of_json;
-pub use text::{push_called, push_cut, push_line, push_octets, push_tag, push_value};
+pub use text::Text;

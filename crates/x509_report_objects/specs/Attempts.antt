@@ -1,10 +1,9 @@
 -- What the steps towards the line of an object come to.
-use Rattle.std.specs.Prelude.{◌≡◌, List, Bool, true, false, Some, None, Ok, Err, option_map}
+use Rattle.std.specs.Prelude.{◌≡◌, Bool, true, false, Some, None, Ok, Err, option_map}
 use Rattle.json.specs.Json.{Json}
-use Rattle.json.specs.Token.{Token}
 use Rattle.x509_der.specs.declared.error.Located.{Located}
 use Rattle.x509_fields.specs.declared.error.X509Error.{X509Error}
-use Rattle.x509_report_lines.specs.Says.{written}
+use Rattle.x509_report_lines.specs.Says.{OnLine, Says}
 use Rattle.x509_report_objects.specs.declared.objects.Attempt.{Attempt}
 use Rattle.x509_report_objects.specs.declared.objects.Attempt.TheVariants as attempts
 use Rattle.x509_report_objects.specs.declared.objects.Found.{Found as RustFound}
@@ -26,7 +25,7 @@ abbrev pub tried_of : RustTried → Tried
 tried_of t = record { certificate = option_map refused_of t.certificate; list = option_map refused_of t.list; request = option_map refused_of t.request }
 
 -- the reader's report is written, or nothing is
-abbrev pub Attempts : Bool → Told → List Token → List Token → Attempt → Type 0
-Attempts wanted told old new attempts.Taken = (wanted ≡ true) × (report : Json) × (told ≡ Ok report) × (new ≡ written old report)
+abbrev pub Attempts : Bool → Told → OnLine → OnLine → Attempt → Type 0
+Attempts wanted told old new attempts.Taken = (wanted ≡ true) × (report : Json) × (told ≡ Ok report) × Says old new report
 Attempts wanted told old new (attempts.Left None) = (wanted ≡ false) × (new ≡ old)
 Attempts wanted told old new (attempts.Left (Some e)) = (wanted ≡ true) × (told ≡ Err (refused_of e)) × (new ≡ old)

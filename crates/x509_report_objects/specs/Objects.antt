@@ -100,13 +100,13 @@ abbrev pub octet_of : ℕ → List Use → ℕ
 octet_of at [] = at
 octet_of at (u ∷ us) = u.at
 
-abbrev pub told_of : List ℕ → Attempted → List Use → ℕ → Json
-told_of octets a rules at =
-    attempt_report (kind_word a.kind) (Some (refusal_name a.refused.why)) (refusal_word x509_word a.refused.why) (Some at)
-    (path_in (part_of a.kind) octets at) (first_uses (part_of a.kind) octets rules)
+abbrev pub told_of : List ℕ → Kind → Refusal X509Error → List Use → ℕ → Json
+told_of octets kind why rules at =
+    attempt_report (kind_word kind) (Some (refusal_name why)) (refusal_word x509_word why) (Some at)
+    (path_in (part_of kind) octets at) (first_uses (part_of kind) octets rules)
 
 abbrev pub tried_with : List ℕ → Attempted → List Use → Json
-tried_with octets a rules = told_of octets a rules (octet_of a.refused.at rules)
+tried_with octets a rules = told_of octets a.kind a.refused.why rules (octet_of a.refused.at rules)
 
 abbrev pub tried_report : List ℕ → Attempted → Json
 tried_report octets a = tried_with octets a (needed (part_of a.kind) octets a.refused.why)

@@ -22,7 +22,7 @@ use crate::certificates::certificate_members;
 use crate::lists::list_members;
 use crate::refused_values::{any_in_list, any_in_request, any_refused};
 use crate::requests::request_members;
-use std::alloc::{AllocError, Global};
+use std::alloc::Global;
 use x509_certs::X509Certificate;
 use x509_der::{FromDer, Located};
 use x509_elements::Part;
@@ -88,13 +88,8 @@ pub(crate) trait Reported<'a>: Sized + Drop {
         ensures marks { IfOk result (λ x. x.2 ≡ telling.field.marks octets.now) };
 
     /// Writes its own members; with fingerprints where these are wanted.
-    fn say_members(
-        &self,
-        alloc: Global,
-        out: &mut Line,
-        fingerprints: bool,
-    ) -> Result<(), AllocError>
-        ensures { SaysMembers result out.old out.new (telling.members fingerprints (view self.now)) };
+    fn say_members(&self, out: &mut Line, fingerprints: bool)
+        ensures { SaysMembers out.old out.new (telling.members fingerprints (view self.now)) };
 
     /// Whether a value of its extensions can't be read.
     fn refuses(&self) -> bool
@@ -123,15 +118,10 @@ impl<'a> Reported<'a> for X509Certificate<'a> {
         X509Certificate::from_der_marked_located(alloc, octets)
     }
 
-    fn say_members(
-        &self,
-        alloc: Global,
-        out: &mut Line,
-        fingerprints: bool,
-    ) -> Result<(), AllocError>
-        ensures { SaysMembers result out.old out.new (certificate_members fingerprints (certificate_of self.now)) }
+    fn say_members(&self, out: &mut Line, fingerprints: bool)
+        ensures { SaysMembers out.old out.new (certificate_members fingerprints (certificate_of self.now)) }
     {
-        certificate_members(alloc, out, fingerprints, self)
+        certificate_members(out, fingerprints, self);
     }
 
     fn refuses(&self) -> bool
@@ -163,15 +153,10 @@ impl<'a> Reported<'a> for CertificateRevocationList<'a> {
         CertificateRevocationList::from_der_marked_located(alloc, octets)
     }
 
-    fn say_members(
-        &self,
-        alloc: Global,
-        out: &mut Line,
-        _fingerprints: bool,
-    ) -> Result<(), AllocError>
-        ensures { SaysMembers result out.old out.new (list_members (list_of self.now)) }
+    fn say_members(&self, out: &mut Line, _fingerprints: bool)
+        ensures { SaysMembers out.old out.new (list_members (list_of self.now)) }
     {
-        list_members(alloc, out, self)
+        list_members(out, self);
     }
 
     fn refuses(&self) -> bool
@@ -203,15 +188,10 @@ impl<'a> Reported<'a> for X509CertificationRequest<'a> {
         X509CertificationRequest::from_der_marked_located(alloc, octets)
     }
 
-    fn say_members(
-        &self,
-        alloc: Global,
-        out: &mut Line,
-        fingerprints: bool,
-    ) -> Result<(), AllocError>
-        ensures { SaysMembers result out.old out.new (request_members fingerprints (certification_request_of self.now)) }
+    fn say_members(&self, out: &mut Line, fingerprints: bool)
+        ensures { SaysMembers out.old out.new (request_members fingerprints (certification_request_of self.now)) }
     {
-        request_members(alloc, out, fingerprints, self)
+        request_members(out, fingerprints, self);
     }
 
     fn refuses(&self) -> bool

@@ -31,55 +31,43 @@ pub(crate) fn some_text(text: &str) -> Option<&str>
 }
 
 /// Why a value is refused, at which octet, and the path that leads there.
-fn say_value(out: &mut Line, path: Option<&str>, value: &RefusedValue) -> Result<(), AllocError>
-    ensures { Says result out.old out.new (value_report (option_map (λ s. s.now) path.entry) value.now) }
+fn say_value(out: &mut Line, path: Option<&str>, value: &RefusedValue)
+    ensures { Says out.old out.new (value_report (option_map (λ s. s.now) path.entry) value.now) }
 {
-    out.begin_object()?;
-    text_under(out, "error", refusal_name(&value.why))?;
-    text_under(out, "word", value.why.word())?;
-    count_under(out, "at", value.at as u64)?;
-    optional_text_under(out, "path", path)?;
-    out.end_object()
+    out.begin_object();
+    text_under(out, "error", refusal_name(&value.why));
+    text_under(out, "word", value.why.word());
+    count_under(out, "at", value.at as u64);
+    optional_text_under(out, "path", path);
+    out.end_object();
 }
 
 /// The same with the path of fields in these octets, which are such a part.
-fn say_with_path(
-    alloc: Global,
-    out: &mut Line,
-    part: Part,
-    octets: &[u8],
-    value: &RefusedValue,
-) -> Result<(), AllocError>
-    ensures { Says result out.old out.new (report_with_path part octets.now value.now) }
+fn say_with_path(out: &mut Line, part: Part, octets: &[u8], value: &RefusedValue)
+    ensures { Says out.old out.new (report_with_path part octets.now value.now) }
 {
-    let path = path_to(alloc, part, octets, value.at)?;
-    say_value(out, some_text(path.as_str()), value)
+    match path_to(out.alloc(), part, octets, value.at) {
+        Ok(path) => say_value(out, some_text(path.as_str()), value),
+        Err(_) => out.stop(),
+    }
 }
 
 /// Values with their paths, one after another.
-fn say_each_with_path(
-    alloc: Global,
-    out: &mut Line,
-    part: Part,
-    octets: &[u8],
-    values: &[RefusedValue],
-) -> Result<(), AllocError>
-    ensures { SaysEach result out.old out.new (report_with_path part octets.now) values.now }
+fn say_each_with_path(out: &mut Line, part: Part, octets: &[u8], values: &[RefusedValue])
+    ensures { SaysEach out.old out.new (report_with_path part octets.now) values.now }
 {
     for value in values {
-        say_with_path(alloc, out, part, octets, value)?;
+        say_with_path(out, part, octets, value);
     }
-    Ok(())
 }
 
 /// Values without a path, one after another.
-fn say_each(out: &mut Line, values: &[RefusedValue]) -> Result<(), AllocError>
-    ensures { SaysEach result out.old out.new (value_report None) values.now }
+fn say_each(out: &mut Line, values: &[RefusedValue])
+    ensures { SaysEach out.old out.new (value_report None) values.now }
 {
     for value in values {
-        say_value(out, None, value)?;
+        say_value(out, None, value);
     }
-    Ok(())
 }
 
 /// The values behind the first ones.
@@ -95,17 +83,11 @@ fn behind(values: &[RefusedValue], count: usize) -> &[RefusedValue]
 
 /// All values, one after another.
 #[tactic(auto, using(crate::proofs::Attempted::each_of_two))]
-fn say_values(
-    alloc: Global,
-    out: &mut Line,
-    part: Part,
-    octets: &[u8],
-    values: &[RefusedValue],
-) -> Result<(), AllocError>
-    ensures { SaysEach result out.old out.new (λ report. report) (value_reports part octets.now values.now) }
+fn say_values(out: &mut Line, part: Part, octets: &[u8], values: &[RefusedValue])
+    ensures { SaysEach out.old out.new (λ report. report) (value_reports part octets.now values.now) }
 {
-    say_each_with_path(alloc, out, part, octets, first_of(values, PATHS))?;
-    say_each(out, behind(values, PATHS))
+    say_each_with_path(out, part, octets, first_of(values, PATHS));
+    say_each(out, behind(values, PATHS));
 }
 
 /// Whether the value of one of these extensions can't be read.
@@ -188,19 +170,14 @@ fn values_if(
 
 /// The values of extensions that can't be read, of the object at the front of the octets, which is such a part, under a key.
 #[tactic(auto, using(crate::proofs::Attempted::items_listed))]
-pub(crate) fn refused_under(
-    alloc: Global,
-    out: &mut Line,
-    key: &str,
-    refused: bool,
-    part: Part,
-    octets: &[u8],
-) -> Result<(), AllocError>
-    ensures { SaysUnder result out.old out.new key.now (array (items_of (value_reports part octets.now (values_if refused part octets.now)))) }
+pub(crate) fn refused_under(out: &mut Line, key: &str, refused: bool, part: Part, octets: &[u8])
+    ensures { SaysUnder out.old out.new key.now (array (items_of (value_reports part octets.now (values_if refused part octets.now)))) }
 {
-    let values = values_if(alloc, refused, part, octets)?;
-    out.key(key)?;
-    out.begin_array()?;
-    say_values(alloc, out, part, octets, values.as_slice())?;
-    out.end_array()
+    out.key(key);
+    out.begin_array();
+    match values_if(out.alloc(), refused, part, octets) {
+        Ok(values) => say_values(out, part, octets, values.as_slice()),
+        Err(_) => out.stop(),
+    }
+    out.end_array();
 }

@@ -3,14 +3,14 @@
 use std::alloc::{AllocError, Global};
 use x509_elements::{DumpLine, Part, dump};
 use x509_probe_answers::Answer;
-use x509_report_lines::push_line;
+use x509_report_lines::{Text, push_line};
 
 // A line as text.
 fn line_text(alloc: Global, found: Result<DumpLine<'_>, AllocError>) -> Result<String, AllocError> {
     let line = found?;
-    let mut text = String::new(alloc);
-    push_line(alloc, &mut text, &line)?;
-    Ok(text)
+    let mut text = Text::new(alloc);
+    push_line(&mut text, &line);
+    text.into_string()
 }
 
 // The lines of an object, each behind a bar, and one behind the last.

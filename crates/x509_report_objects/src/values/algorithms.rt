@@ -9,7 +9,6 @@ ghost use Rattle.x509_report_objects.specs.Algorithms.{algorithm_report, bits_re
 use crate::values::identifiers::oid_members;
 use crate::values::said::{Said, optional_under};
 use crate::values::under::{count_under, hex_under, null_under, text_under};
-use std::alloc::{AllocError, Global};
 use x509_der::{Any, BitString};
 use x509_fields::AlgorithmIdentifier;
 use x509_keys::signature_hash;
@@ -23,11 +22,11 @@ impl Said for BitString<'_> {
     ghost report = { bits_report };
 
     #[tactic(auto, unfolding(crate::specs::Algorithms::bits_report))]
-    fn say(&self, alloc: Global, out: &mut Line) -> Result<(), AllocError> {
-        out.begin_object()?;
-        hex_under(alloc, out, "hex", self.bytes)?;
-        count_under(out, "unused_bits", u64::from(self.unused_bits))?;
-        out.end_object()
+    fn say(&self, out: &mut Line) {
+        out.begin_object();
+        hex_under(out, "hex", self.bytes);
+        count_under(out, "unused_bits", u64::from(self.unused_bits));
+        out.end_object();
     }
 }
 
@@ -39,11 +38,11 @@ impl Said for Any<'_> {
     ghost report = { parameters_report };
 
     #[tactic(auto, unfolding(crate::specs::Algorithms::parameters_report))]
-    fn say(&self, alloc: Global, out: &mut Line) -> Result<(), AllocError> {
-        out.begin_object()?;
-        count_under(out, "tag", u64::from(self.tag().0))?;
-        hex_under(alloc, out, "hex", self.as_bytes())?;
-        out.end_object()
+    fn say(&self, out: &mut Line) {
+        out.begin_object();
+        count_under(out, "tag", u64::from(self.tag().0));
+        hex_under(out, "hex", self.as_bytes());
+        out.end_object();
     }
 }
 
@@ -55,14 +54,14 @@ impl Said for AlgorithmIdentifier<'_> {
     ghost report = { algorithm_report };
 
     #[tactic(auto, unfolding(crate::specs::Algorithms::algorithm_report))]
-    fn say(&self, alloc: Global, out: &mut Line) -> Result<(), AllocError> {
-        out.begin_object()?;
-        oid_members(alloc, out, &self.algorithm)?;
+    fn say(&self, out: &mut Line) {
+        out.begin_object();
+        oid_members(out, &self.algorithm);
         match signature_hash(self) {
-            Some(hash) => text_under(out, "hash", hash.word())?,
-            None => null_under(out, "hash")?,
+            Some(hash) => text_under(out, "hash", hash.word()),
+            None => null_under(out, "hash"),
         }
-        optional_under(alloc, out, "parameters", &self.parameters)?;
-        out.end_object()
+        optional_under(out, "parameters", &self.parameters);
+        out.end_object();
     }
 }

@@ -19,7 +19,6 @@ use crate::values::bit_names::names_under;
 use crate::values::identifiers::oid_members;
 use crate::values::said::{Said, list_under, optional_list_under, optional_under, value_under};
 use crate::values::under::{count_under, null_under, optional_hex_under, truth_under};
-use std::alloc::{AllocError, Global};
 use x509_general_names::{
     AccessDescription, AuthorityKeyIdentifier, CRLDistributionPoint, DistributionPointName,
     GeneralName, IssuingDistributionPoint, KeyIdentifier, ReasonFlags,
@@ -35,11 +34,11 @@ impl Said for ReasonFlags {
     ghost report = { reason_flags_report };
 
     #[tactic(auto, unfolding(crate::specs::Authorities::reason_flags_report))]
-    fn say(&self, _alloc: Global, out: &mut Line) -> Result<(), AllocError> {
-        out.begin_object()?;
-        count_under(out, "flags", u64::from(self.flags))?;
-        names_under(out, "reasons", self.names())?;
-        out.end_object()
+    fn say(&self, out: &mut Line) {
+        out.begin_object();
+        count_under(out, "flags", u64::from(self.flags));
+        names_under(out, "reasons", self.names());
+        out.end_object();
     }
 }
 
@@ -51,70 +50,56 @@ impl Said for AuthorityKeyIdentifier<'_> {
     ghost report = { authority_key_identifier_report };
 
     #[tactic(auto, unfolding(crate::specs::Authorities::authority_key_identifier_report))]
-    fn say(&self, alloc: Global, out: &mut Line) -> Result<(), AllocError> {
-        out.begin_object()?;
+    fn say(&self, out: &mut Line) {
+        out.begin_object();
         let identifier = match &self.key_identifier {
             Some(KeyIdentifier(octets)) => Some(*octets),
             None => None,
         };
-        optional_hex_under(alloc, out, "key_identifier", identifier)?;
-        optional_list_under(alloc, out, "issuer", &self.authority_cert_issuer)?;
-        optional_hex_under(alloc, out, "serial", self.authority_cert_serial)?;
-        out.end_object()
+        optional_hex_under(out, "key_identifier", identifier);
+        optional_list_under(out, "issuer", &self.authority_cert_issuer);
+        optional_hex_under(out, "serial", self.authority_cert_serial);
+        out.end_object();
     }
 }
 
 /// A point by its names.
-fn say_full_name(alloc: Global, out: &mut Line, names: &[GeneralName<'_>]) -> Result<(), AllocError>
-    ensures { SaysMembers result out.old out.new (name_members (FullName (map general_name_of names.now))) }
+fn say_full_name(out: &mut Line, names: &[GeneralName<'_>])
+    ensures { SaysMembers out.old out.new (name_members (FullName (map general_name_of names.now))) }
 {
-    list_under(alloc, out, "full_name", names)?;
-    null_under(out, "relative_name")?;
-    Ok(())
+    list_under(out, "full_name", names);
+    null_under(out, "relative_name");
 }
 
 /// A point by a name relative to its issuer's.
-fn say_relative_name(
-    alloc: Global,
-    out: &mut Line,
-    relative: &RelativeDistinguishedName<'_>,
-) -> Result<(), AllocError>
-    ensures { SaysMembers result out.old out.new (name_members (NameRelativeToCRLIssuer (relative_name_of relative.now))) }
+fn say_relative_name(out: &mut Line, relative: &RelativeDistinguishedName<'_>)
+    ensures { SaysMembers out.old out.new (name_members (NameRelativeToCRLIssuer (relative_name_of relative.now))) }
 {
-    null_under(out, "full_name")?;
-    value_under(alloc, out, "relative_name", relative)?;
-    Ok(())
+    null_under(out, "full_name");
+    value_under(out, "relative_name", relative);
 }
 
 /// One of two ways to name a point.
-fn say_name(
-    alloc: Global,
-    out: &mut Line,
-    name: &DistributionPointName<'_>,
-) -> Result<(), AllocError>
-    ensures { SaysMembers result out.old out.new (name_members (point_name_of name.now)) }
+fn say_name(out: &mut Line, name: &DistributionPointName<'_>)
+    ensures { SaysMembers out.old out.new (name_members (point_name_of name.now)) }
 {
     match name {
-        DistributionPointName::FullName(names) => say_full_name(alloc, out, names.as_slice()),
+        DistributionPointName::FullName(names) => say_full_name(out, names.as_slice()),
         DistributionPointName::NameRelativeToCRLIssuer(relative) => {
-            say_relative_name(alloc, out, relative)
+            say_relative_name(out, relative)
         }
     }
 }
 
 /// The name of a point, where it has one.
-fn say_point_name(
-    alloc: Global,
-    out: &mut Line,
-    name: &Option<DistributionPointName<'_>>,
-) -> Result<(), AllocError>
-    ensures { SaysMembers result out.old out.new (point_name_members (option_view point_name_of name.now)) }
+fn say_point_name(out: &mut Line, name: &Option<DistributionPointName<'_>>)
+    ensures { SaysMembers out.old out.new (point_name_members (option_view point_name_of name.now)) }
 {
     match name {
-        Some(name) => say_name(alloc, out, name),
+        Some(name) => say_name(out, name),
         None => {
-            null_under(out, "full_name")?;
-            null_under(out, "relative_name")
+            null_under(out, "full_name");
+            null_under(out, "relative_name");
         }
     }
 }
@@ -127,36 +112,32 @@ impl Said for CRLDistributionPoint<'_> {
     ghost report = { point_report };
 
     #[tactic(auto, unfolding(crate::specs::Authorities::point_report))]
-    fn say(&self, alloc: Global, out: &mut Line) -> Result<(), AllocError> {
-        out.begin_object()?;
-        say_point_name(alloc, out, &self.distribution_point)?;
-        optional_under(alloc, out, "reasons", &self.reasons)?;
-        optional_list_under(alloc, out, "crl_issuer", &self.crl_issuer)?;
-        out.end_object()
+    fn say(&self, out: &mut Line) {
+        out.begin_object();
+        say_point_name(out, &self.distribution_point);
+        optional_under(out, "reasons", &self.reasons);
+        optional_list_under(out, "crl_issuer", &self.crl_issuer);
+        out.end_object();
     }
 }
 
 /// What a list of revoked certificates covers.
-fn say_cover(
-    alloc: Global,
-    out: &mut Line,
-    point: &IssuingDistributionPoint<'_>,
-) -> Result<(), AllocError>
-    ensures { SaysMembers result out.old out.new (cover_members (issuing_point_of point.now)) }
+fn say_cover(out: &mut Line, point: &IssuingDistributionPoint<'_>)
+    ensures { SaysMembers out.old out.new (cover_members (issuing_point_of point.now)) }
 {
     truth_under(
         out,
         "only_user_certificates",
         point.only_contains_user_certs,
-    )?;
-    truth_under(out, "only_ca_certificates", point.only_contains_ca_certs)?;
-    optional_under(alloc, out, "only_some_reasons", &point.only_some_reasons)?;
-    truth_under(out, "indirect_crl", point.indirect_crl)?;
+    );
+    truth_under(out, "only_ca_certificates", point.only_contains_ca_certs);
+    optional_under(out, "only_some_reasons", &point.only_some_reasons);
+    truth_under(out, "indirect_crl", point.indirect_crl);
     truth_under(
         out,
         "only_attribute_certificates",
         point.only_contains_attribute_certs,
-    )
+    );
 }
 
 impl Said for IssuingDistributionPoint<'_> {
@@ -167,11 +148,11 @@ impl Said for IssuingDistributionPoint<'_> {
     ghost report = { issuing_point_report };
 
     #[tactic(auto, unfolding(crate::specs::Authorities::issuing_point_report))]
-    fn say(&self, alloc: Global, out: &mut Line) -> Result<(), AllocError> {
-        out.begin_object()?;
-        say_point_name(alloc, out, &self.distribution_point)?;
-        say_cover(alloc, out, self)?;
-        out.end_object()
+    fn say(&self, out: &mut Line) {
+        out.begin_object();
+        say_point_name(out, &self.distribution_point);
+        say_cover(out, self);
+        out.end_object();
     }
 }
 
@@ -183,10 +164,10 @@ impl Said for AccessDescription<'_> {
     ghost report = { access_report };
 
     #[tactic(auto, unfolding(crate::specs::Authorities::access_report))]
-    fn say(&self, alloc: Global, out: &mut Line) -> Result<(), AllocError> {
-        out.begin_object()?;
-        oid_members(alloc, out, &self.access_method)?;
-        value_under(alloc, out, "location", &self.access_location)?;
-        out.end_object()
+    fn say(&self, out: &mut Line) {
+        out.begin_object();
+        oid_members(out, &self.access_method);
+        value_under(out, "location", &self.access_location);
+        out.end_object();
     }
 }

@@ -4,27 +4,25 @@ ghost use Rattle.json.specs.Json as json;
 ghost use Rattle.x509_fields.specs.BitNames.{names_left};
 ghost use Rattle.x509_report_lines.specs.Says.{SaysEach, SaysUnder, list_of};
 
-use std::alloc::AllocError;
 use x509_fields::BitNames;
 use x509_report_lines::Line;
 
 /// The names of the bits that are set, one after another.
-fn say_names(out: &mut Line, names: BitNames) -> Result<(), AllocError>
-    ensures { SaysEach result out.old out.new (λ s. json.string s) (names_left names) }
+fn say_names(out: &mut Line, names: BitNames)
+    ensures { SaysEach out.old out.new (λ s. json.string s) (names_left names) }
 {
     for name in names {
-        out.string(name)?;
+        out.string(name);
     }
-    Ok(())
 }
 
 /// The names of the bits that are set, under a key.
 #[tactic(auto, using(x509_report_lines::proofs::Written::list_written))]
-pub fn names_under(out: &mut Line, key: &str, names: BitNames) -> Result<(), AllocError>
-    ensures { SaysUnder result out.old out.new key.now (list_of (λ s. json.string s) (names_left names)) }
+pub fn names_under(out: &mut Line, key: &str, names: BitNames)
+    ensures { SaysUnder out.old out.new key.now (list_of (λ s. json.string s) (names_left names)) }
 {
-    out.key(key)?;
-    out.begin_array()?;
-    say_names(out, names)?;
-    out.end_array()
+    out.key(key);
+    out.begin_array();
+    say_names(out, names);
+    out.end_array();
 }

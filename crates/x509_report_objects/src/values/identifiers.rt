@@ -7,17 +7,16 @@ ghost use Rattle.x509_report_objects.specs.Identifiers.{oid_members, oid_report}
 
 use crate::values::said::Said;
 use crate::values::under::{optional_text_under, shown_under};
-use std::alloc::{AllocError, Global};
 use x509_der::Oid;
 use x509_names::registered_name;
 use x509_report_lines::Line;
 
 /// An identifier and what it is called, as two members.
-pub fn oid_members(alloc: Global, out: &mut Line, oid: &Oid<'_>) -> Result<(), AllocError>
-    ensures { SaysMembers result out.old out.new (oid_members (oid_bytes oid.now)) }
+pub fn oid_members(out: &mut Line, oid: &Oid<'_>)
+    ensures { SaysMembers out.old out.new (oid_members (oid_bytes oid.now)) }
 {
-    shown_under(alloc, out, "oid", oid)?;
-    optional_text_under(out, "name", registered_name(oid.as_bytes()))
+    shown_under(out, "oid", oid);
+    optional_text_under(out, "name", registered_name(oid.as_bytes()));
 }
 
 impl Said for Oid<'_> {
@@ -28,9 +27,9 @@ impl Said for Oid<'_> {
     ghost report = { oid_report };
 
     #[tactic(auto, unfolding(crate::specs::Identifiers::oid_report))]
-    fn say(&self, alloc: Global, out: &mut Line) -> Result<(), AllocError> {
-        out.begin_object()?;
-        oid_members(alloc, out, self)?;
-        out.end_object()
+    fn say(&self, out: &mut Line) {
+        out.begin_object();
+        oid_members(out, self);
+        out.end_object();
     }
 }

@@ -12,14 +12,13 @@ use crate::values::said::value_under;
 use crate::values::under::{
     fingerprint_under, hex_under, null_under, optional_size_under, text_under,
 };
-use std::alloc::{AllocError, Global};
 use x509_keys::{PublicKey, SubjectPublicKeyInfo};
 use x509_report_lines::Line;
 
 /// The curve of a key, where it is known, under a key.
 #[tactic(auto, unfolding(crate::specs::Keys::curve_report))]
-fn curve_under(out: &mut Line, key: &str, info: &SubjectPublicKeyInfo<'_>) -> Result<(), AllocError>
-    ensures { SaysUnder result out.old out.new key.now (curve_report (curve_in (key_info_of info.now))) }
+fn curve_under(out: &mut Line, key: &str, info: &SubjectPublicKeyInfo<'_>)
+    ensures { SaysUnder out.old out.new key.now (curve_report (curve_in (key_info_of info.now))) }
 {
     match info.named_curve() {
         Some(curve) => text_under(out, key, curve.word()),
@@ -29,88 +28,69 @@ fn curve_under(out: &mut Line, key: &str, info: &SubjectPublicKeyInfo<'_>) -> Re
 
 /// What the key is for, under a key.
 #[tactic(auto, unfolding(crate::specs::Keys::kind_report))]
-fn kind_under(out: &mut Line, key: &str, info: &SubjectPublicKeyInfo<'_>) -> Result<(), AllocError>
-    ensures { SaysUnder result out.old out.new key.now (kind_report (algorithm_in (key_info_of info.now))) }
+fn kind_under(out: &mut Line, key: &str, info: &SubjectPublicKeyInfo<'_>)
+    ensures { SaysUnder out.old out.new key.now (kind_report (algorithm_in (key_info_of info.now))) }
 {
-    text_under(out, key, info.key_algorithm().word())
+    text_under(out, key, info.key_algorithm().word());
 }
 
 /// Its size, under a key.
 #[tactic(auto, unfolding(crate::specs::Keys::size_report))]
-fn size_under(out: &mut Line, key: &str, info: &SubjectPublicKeyInfo<'_>) -> Result<(), AllocError>
-    ensures { SaysUnder result out.old out.new key.now (size_report (size_in (key_info_of info.now))) }
+fn size_under(out: &mut Line, key: &str, info: &SubjectPublicKeyInfo<'_>)
+    ensures { SaysUnder out.old out.new key.now (size_report (size_in (key_info_of info.now))) }
 {
-    optional_size_under(out, key, info.key_size())
+    optional_size_under(out, key, info.key_size());
 }
 
 /// The algorithm, under a key.
-fn algorithm_under(
-    alloc: Global,
-    out: &mut Line,
-    key: &str,
-    info: &SubjectPublicKeyInfo<'_>,
-) -> Result<(), AllocError>
-    ensures { SaysUnder result out.old out.new key.now (algorithm_report (key_info_of info.now).algorithm) }
+fn algorithm_under(out: &mut Line, key: &str, info: &SubjectPublicKeyInfo<'_>)
+    ensures { SaysUnder out.old out.new key.now (algorithm_report (key_info_of info.now).algorithm) }
 {
-    value_under(alloc, out, key, &info.algorithm)
+    value_under(out, key, &info.algorithm);
 }
 
 /// The algorithm, and what the key is for.
-fn say_kind(
-    alloc: Global,
-    out: &mut Line,
-    info: &SubjectPublicKeyInfo<'_>,
-) -> Result<(), AllocError>
-    ensures { SaysMembers result out.old out.new (key_kind_members (key_info_of info.now)) }
+fn say_kind(out: &mut Line, info: &SubjectPublicKeyInfo<'_>)
+    ensures { SaysMembers out.old out.new (key_kind_members (key_info_of info.now)) }
 {
-    algorithm_under(alloc, out, "algorithm", info)?;
-    kind_under(out, "kind", info)?;
-    Ok(())
+    algorithm_under(out, "algorithm", info);
+    kind_under(out, "kind", info);
 }
 
 /// Its size and its curve.
-fn say_size(out: &mut Line, info: &SubjectPublicKeyInfo<'_>) -> Result<(), AllocError>
-    ensures { SaysMembers result out.old out.new (key_size_members (key_info_of info.now)) }
+fn say_size(out: &mut Line, info: &SubjectPublicKeyInfo<'_>)
+    ensures { SaysMembers out.old out.new (key_size_members (key_info_of info.now)) }
 {
-    size_under(out, "size", info)?;
-    curve_under(out, "curve", info)
+    size_under(out, "size", info);
+    curve_under(out, "curve", info);
 }
 
 /// The two numbers of an RSA key.
-fn say_numbers(
-    alloc: Global,
-    out: &mut Line,
-    info: &SubjectPublicKeyInfo<'_>,
-) -> Result<(), AllocError>
-    ensures { SaysMembers result out.old out.new (key_numbers (key_in (key_info_of info.now))) }
+fn say_numbers(out: &mut Line, info: &SubjectPublicKeyInfo<'_>)
+    ensures { SaysMembers out.old out.new (key_numbers (key_in (key_info_of info.now))) }
 {
     match info.parsed() {
         Ok(PublicKey::RSA(key)) => {
-            hex_under(alloc, out, "modulus", key.modulus)?;
-            hex_under(alloc, out, "exponent", key.exponent)
+            hex_under(out, "modulus", key.modulus);
+            hex_under(out, "exponent", key.exponent);
         }
         _ => {
-            null_under(out, "modulus")?;
-            null_under(out, "exponent")
+            null_under(out, "modulus");
+            null_under(out, "exponent");
         }
     }
 }
 
 /// A key; with the fingerprint of its info where these are wanted.
 #[tactic(auto, unfolding(crate::specs::Keys::key_report))]
-pub fn say_key(
-    alloc: Global,
-    out: &mut Line,
-    fingerprints: bool,
-    info: &SubjectPublicKeyInfo<'_>,
-) -> Result<(), AllocError>
-    ensures { Says result out.old out.new (key_report fingerprints (key_info_of info.now)) }
+pub fn say_key(out: &mut Line, fingerprints: bool, info: &SubjectPublicKeyInfo<'_>)
+    ensures { Says out.old out.new (key_report fingerprints (key_info_of info.now)) }
 {
-    out.begin_object()?;
-    say_kind(alloc, out, info)?;
-    say_size(out, info)?;
-    say_numbers(alloc, out, info)?;
-    value_under(alloc, out, "bits", &info.subject_public_key)?;
-    fingerprint_under(alloc, out, "sha256", fingerprints, info.raw)?;
-    out.end_object()
+    out.begin_object();
+    say_kind(out, info);
+    say_size(out, info);
+    say_numbers(out, info);
+    value_under(out, "bits", &info.subject_public_key);
+    fingerprint_under(out, "sha256", fingerprints, info.raw);
+    out.end_object();
 }

@@ -7,27 +7,26 @@ ghost use Rattle.x509_report_objects.specs.Times.{form_word, text_members, time_
 
 use crate::values::said::Said;
 use crate::values::under::{null_under, text_under};
-use std::alloc::{AllocError, Global};
 use x509_fields::{ASN1Time, X509Error};
 use x509_report_lines::Line;
 
 /// Its text, where its year has four digits.
-fn say_text(alloc: Global, out: &mut Line, time: &ASN1Time) -> Result<(), AllocError>
-    ensures { SaysMembers result out.old out.new (text_members (time_of time.now)) }
+fn say_text(out: &mut Line, time: &ASN1Time)
+    ensures { SaysMembers out.old out.new (text_members (time_of time.now)) }
 {
-    match time.to_rfc3339(alloc) {
+    match time.to_rfc3339(out.alloc()) {
         Ok(text) => text_under(out, "time", &text),
-        Err(X509Error::OutOfMemory) => Err(AllocError),
+        Err(X509Error::OutOfMemory) => out.stop(),
         Err(_) => null_under(out, "time"),
     }
 }
 
 /// Seconds under a key.
-fn seconds_under(out: &mut Line, key: &str, seconds: i64) -> Result<(), AllocError>
-    ensures { SaysUnder result out.old out.new key.now (whole_seconds seconds) }
+fn seconds_under(out: &mut Line, key: &str, seconds: i64)
+    ensures { SaysUnder out.old out.new key.now (whole_seconds seconds) }
 {
-    out.key(key)?;
-    out.i64(seconds)
+    out.key(key);
+    out.i64(seconds);
 }
 
 /// A word for the form.
@@ -49,11 +48,11 @@ impl Said for ASN1Time {
     ghost report = { time_report };
 
     #[tactic(auto, unfolding(crate::specs::Times::time_report))]
-    fn say(&self, alloc: Global, out: &mut Line) -> Result<(), AllocError> {
-        out.begin_object()?;
-        say_text(alloc, out, self)?;
-        seconds_under(out, "unix", self.timestamp())?;
-        text_under(out, "form", form_word(self))?;
-        out.end_object()
+    fn say(&self, out: &mut Line) {
+        out.begin_object();
+        say_text(out, self);
+        seconds_under(out, "unix", self.timestamp());
+        text_under(out, "form", form_word(self));
+        out.end_object();
     }
 }

@@ -7,32 +7,27 @@ ghost use Rattle.x509_report_objects.specs.Timestamps.{promise_members, signed_m
 
 use crate::values::said::Said;
 use crate::values::under::{count_under, hex_under};
-use std::alloc::{AllocError, Global};
 use x509_report_lines::Line;
 use x509_values::{DigitallySigned, SignedCertificateTimestamp};
 
 /// What is promised, and by whom.
-fn say_promise(
-    alloc: Global,
-    out: &mut Line,
-    timestamp: &SignedCertificateTimestamp<'_>,
-) -> Result<(), AllocError>
-    ensures { SaysMembers result out.old out.new (promise_members (timestamp_of timestamp.now)) }
+fn say_promise(out: &mut Line, timestamp: &SignedCertificateTimestamp<'_>)
+    ensures { SaysMembers out.old out.new (promise_members (timestamp_of timestamp.now)) }
 {
-    count_under(out, "version", u64::from(timestamp.version.0))?;
+    count_under(out, "version", u64::from(timestamp.version.0));
     let log = timestamp.id.key_id;
-    hex_under(alloc, out, "log_id", log)?;
-    count_under(out, "timestamp_ms", timestamp.timestamp)?;
-    hex_under(alloc, out, "extensions", timestamp.extensions.0)
+    hex_under(out, "log_id", log);
+    count_under(out, "timestamp_ms", timestamp.timestamp);
+    hex_under(out, "extensions", timestamp.extensions.0);
 }
 
 /// How it is signed.
-fn say_signed(alloc: Global, out: &mut Line, signed: &DigitallySigned<'_>) -> Result<(), AllocError>
-    ensures { SaysMembers result out.old out.new (signed_members (signed_of signed.now)) }
+fn say_signed(out: &mut Line, signed: &DigitallySigned<'_>)
+    ensures { SaysMembers out.old out.new (signed_members (signed_of signed.now)) }
 {
-    count_under(out, "hash", u64::from(signed.hash_alg_id))?;
-    count_under(out, "sign", u64::from(signed.sign_alg_id))?;
-    hex_under(alloc, out, "signature", signed.bytes)
+    count_under(out, "hash", u64::from(signed.hash_alg_id));
+    count_under(out, "sign", u64::from(signed.sign_alg_id));
+    hex_under(out, "signature", signed.bytes);
 }
 
 impl Said for SignedCertificateTimestamp<'_> {
@@ -43,10 +38,10 @@ impl Said for SignedCertificateTimestamp<'_> {
     ghost report = { timestamp_report };
 
     #[tactic(auto, unfolding(crate::specs::Timestamps::timestamp_report))]
-    fn say(&self, alloc: Global, out: &mut Line) -> Result<(), AllocError> {
-        out.begin_object()?;
-        say_promise(alloc, out, self)?;
-        say_signed(alloc, out, &self.signature)?;
-        out.end_object()
+    fn say(&self, out: &mut Line) {
+        out.begin_object();
+        say_promise(out, self);
+        say_signed(out, &self.signature);
+        out.end_object();
     }
 }

@@ -18,7 +18,6 @@ use crate::values::bit_names::names_under;
 use crate::values::identifiers::oid_members;
 use crate::values::said::{Said, list_under, optional_list_under, value_under};
 use crate::values::under::{count_under, hex_under, optional_count_under, text_under, truth_under};
-use std::alloc::{AllocError, Global};
 use x509_fields::ReasonCode;
 use x509_report_lines::{Line, set_words_under};
 use x509_values::{
@@ -34,11 +33,11 @@ impl Said for BasicConstraints {
     ghost report = { basic_constraints_report };
 
     #[tactic(auto, unfolding(crate::specs::Usages::basic_constraints_report))]
-    fn say(&self, _alloc: Global, out: &mut Line) -> Result<(), AllocError> {
-        out.begin_object()?;
-        truth_under(out, "ca", self.ca)?;
-        optional_count_under(out, "path_len", self.path_len_constraint)?;
-        out.end_object()
+    fn say(&self, out: &mut Line) {
+        out.begin_object();
+        truth_under(out, "ca", self.ca);
+        optional_count_under(out, "path_len", self.path_len_constraint);
+        out.end_object();
     }
 }
 
@@ -50,11 +49,11 @@ impl Said for KeyUsage {
     ghost report = { key_usage_report };
 
     #[tactic(auto, unfolding(crate::specs::Usages::key_usage_report))]
-    fn say(&self, _alloc: Global, out: &mut Line) -> Result<(), AllocError> {
-        out.begin_object()?;
-        count_under(out, "flags", u64::from(self.flags))?;
-        names_under(out, "uses", self.names())?;
-        out.end_object()
+    fn say(&self, out: &mut Line) {
+        out.begin_object();
+        count_under(out, "flags", u64::from(self.flags));
+        names_under(out, "uses", self.names());
+        out.end_object();
     }
 }
 
@@ -66,11 +65,11 @@ impl Said for NSCertType {
     ghost report = { ns_cert_type_report };
 
     #[tactic(auto, unfolding(crate::specs::Usages::ns_cert_type_report))]
-    fn say(&self, _alloc: Global, out: &mut Line) -> Result<(), AllocError> {
-        out.begin_object()?;
-        count_under(out, "flags", u64::from(self.flags))?;
-        names_under(out, "types", self.names())?;
-        out.end_object()
+    fn say(&self, out: &mut Line) {
+        out.begin_object();
+        count_under(out, "flags", u64::from(self.flags));
+        names_under(out, "types", self.names());
+        out.end_object();
     }
 }
 
@@ -82,11 +81,11 @@ impl Said for PolicyConstraints {
     ghost report = { policy_constraints_report };
 
     #[tactic(auto, unfolding(crate::specs::Usages::policy_constraints_report))]
-    fn say(&self, _alloc: Global, out: &mut Line) -> Result<(), AllocError> {
-        out.begin_object()?;
-        optional_count_under(out, "require_explicit_policy", self.require_explicit_policy)?;
-        optional_count_under(out, "inhibit_policy_mapping", self.inhibit_policy_mapping)?;
-        out.end_object()
+    fn say(&self, out: &mut Line) {
+        out.begin_object();
+        optional_count_under(out, "require_explicit_policy", self.require_explicit_policy);
+        optional_count_under(out, "inhibit_policy_mapping", self.inhibit_policy_mapping);
+        out.end_object();
     }
 }
 
@@ -98,10 +97,10 @@ impl Said for InhibitAnyPolicy {
     ghost report = { inhibit_any_policy_report };
 
     #[tactic(auto, unfolding(crate::specs::Usages::inhibit_any_policy_report))]
-    fn say(&self, _alloc: Global, out: &mut Line) -> Result<(), AllocError> {
-        out.begin_object()?;
-        count_under(out, "skip_certs", u64::from(self.skip_certs))?;
-        out.end_object()
+    fn say(&self, out: &mut Line) {
+        out.begin_object();
+        count_under(out, "skip_certs", u64::from(self.skip_certs));
+        out.end_object();
     }
 }
 
@@ -113,11 +112,11 @@ impl Said for PolicyQualifierInfo<'_> {
     ghost report = { qualifier_report };
 
     #[tactic(auto, unfolding(crate::specs::Usages::qualifier_report))]
-    fn say(&self, alloc: Global, out: &mut Line) -> Result<(), AllocError> {
-        out.begin_object()?;
-        oid_members(alloc, out, &self.policy_qualifier_id)?;
-        hex_under(alloc, out, "hex", self.qualifier)?;
-        out.end_object()
+    fn say(&self, out: &mut Line) {
+        out.begin_object();
+        oid_members(out, &self.policy_qualifier_id);
+        hex_under(out, "hex", self.qualifier);
+        out.end_object();
     }
 }
 
@@ -129,11 +128,11 @@ impl Said for PolicyInformation<'_> {
     ghost report = { policy_report };
 
     #[tactic(auto, unfolding(crate::specs::Usages::policy_report))]
-    fn say(&self, alloc: Global, out: &mut Line) -> Result<(), AllocError> {
-        out.begin_object()?;
-        oid_members(alloc, out, &self.policy_id)?;
-        optional_list_under(alloc, out, "qualifiers", &self.policy_qualifiers)?;
-        out.end_object()
+    fn say(&self, out: &mut Line) {
+        out.begin_object();
+        oid_members(out, &self.policy_id);
+        optional_list_under(out, "qualifiers", &self.policy_qualifiers);
+        out.end_object();
     }
 }
 
@@ -145,21 +144,11 @@ impl Said for PolicyMapping<'_> {
     ghost report = { policy_mapping_report };
 
     #[tactic(auto, unfolding(crate::specs::Usages::policy_mapping_report))]
-    fn say(&self, alloc: Global, out: &mut Line) -> Result<(), AllocError> {
-        out.begin_object()?;
-        value_under(
-            alloc,
-            out,
-            "issuer_domain_policy",
-            &self.issuer_domain_policy,
-        )?;
-        value_under(
-            alloc,
-            out,
-            "subject_domain_policy",
-            &self.subject_domain_policy,
-        )?;
-        out.end_object()
+    fn say(&self, out: &mut Line) {
+        out.begin_object();
+        value_under(out, "issuer_domain_policy", &self.issuer_domain_policy);
+        value_under(out, "subject_domain_policy", &self.subject_domain_policy);
+        out.end_object();
     }
 }
 
@@ -171,7 +160,7 @@ impl Said for ExtendedKeyUsage<'_> {
     ghost report = { extended_key_usage_report };
 
     #[tactic(auto, unfolding(crate::specs::Usages::extended_key_usage_report))]
-    fn say(&self, alloc: Global, out: &mut Line) -> Result<(), AllocError> {
+    fn say(&self, out: &mut Line) {
         let purposes = [
             (self.any, "any"),
             (self.server_auth, "server_auth"),
@@ -181,10 +170,10 @@ impl Said for ExtendedKeyUsage<'_> {
             (self.time_stamping, "time_stamping"),
             (self.ocsp_signing, "ocsp_signing"),
         ];
-        out.begin_object()?;
-        set_words_under(out, "purposes", &purposes)?;
-        list_under(alloc, out, "other", self.other.as_slice())?;
-        out.end_object()
+        out.begin_object();
+        set_words_under(out, "purposes", &purposes);
+        list_under(out, "other", self.other.as_slice());
+        out.end_object();
     }
 }
 
@@ -196,10 +185,10 @@ impl Said for ReasonCode {
     ghost report = { reason_report };
 
     #[tactic(auto, unfolding(crate::specs::Usages::reason_report))]
-    fn say(&self, _alloc: Global, out: &mut Line) -> Result<(), AllocError> {
-        out.begin_object()?;
-        count_under(out, "code", u64::from(self.0))?;
-        text_under(out, "reason", self.word())?;
-        out.end_object()
+    fn say(&self, out: &mut Line) {
+        out.begin_object();
+        count_under(out, "code", u64::from(self.0));
+        text_under(out, "reason", self.word());
+        out.end_object();
     }
 }

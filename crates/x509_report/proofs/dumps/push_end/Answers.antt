@@ -1,6 +1,5 @@
 -- One part behind another.
 use Rattle.std.proofs.Common.{◌++◌, List, ℕ, codes}
-use Rattle.std.specs.Prelude.{string_bytes}
 use Rattle.x509_report_lines.proofs.Joined.{both}
 use Rattle.x509_report_lines.specs.PageElements.{closings}
 use Rattle.x509_report_lines.specs.PageOctets.{octets_page}
@@ -10,13 +9,15 @@ use Rattle.x509_report.proofs.dumps.push_end.Goals as goal
 
 pub returns : goal.returns
 unfolding section_end
-returns c =
+returns c = λ kept.
+    let end = c.push_str.ensures kept in
+    let shown = c.push_octets.ensures end.0 in
+    let marked = c.push_marks_behind.ensures shown.0 in
+    let closed = c.push_closings.ensures marked.0 in
     let marks : List ℕ = marks_behind forms.Html c.args.view.now c.args.octets.now c.args.values.now in
-    let octets : List ℕ = octets_page c.args.octets.now in
-    let ended : List ℕ = string_bytes c.push_closings.new.out in
-    let marked : List ℕ = string_bytes c.push_marks_behind.new.text in
-    let shown : List ℕ = string_bytes c.push_octets.new.out in
-    let new : List ℕ = string_bytes c.push_str.new.self in
-    both (string_bytes c.args.page.now) ended new (closings c.args.opened) (marks ++ (octets ++ codes "</section>\n")) c.in_ok-push_closings.ensures
-    (both ended marked new marks (octets ++ codes "</section>\n") c.in_ok-push_marks_behind.ensures
-    (both marked shown new octets (codes "</section>\n") c.in_ok-push_octets.ensures c.in_ok-push_str.ensures.bytes))
+    let octets : List ℕ = octets_page c.args.octets.now in (
+      closed.0,
+      both _ _ _ (closings c.args.opened) (marks ++ (octets ++ codes "</section>\n")) closed.1
+          (both _ _ _ marks (octets ++ codes "</section>\n") marked.1
+          (both _ _ _ octets (codes "</section>\n") shown.1 end.1)),
+    )

@@ -7,4 +7,13 @@ use Rattle.x509_report_objects.specs.Certificates.{validator_report}
 use Rattle.x509_report_objects.proofs.certificates.say_tail.Goals as goal
 
 pub returns : goal.returns
-returns c = c.in_ok-validator_under.ensures ∙ ap (λ ts. written (ts ++ key (codes "validator") ∷ []) (validator_report (is_signed_part_sound (certificate_of c.args.certificate.now).tbs) (signed_part_messages (certificate_of c.args.certificate.now).tbs))) (c.in_ok-signed_size_under.ensures ∙ ap (λ ts. written (ts ++ key (codes "tbs_length") ∷ []) (count (length (certificate_of c.args.certificate.now).tbs.raw))) c.in_ok-value_under.ensures)
+returns c = λ kept.
+    let third = c.validator_under.ensures kept in
+    let second = c.signed_size_under.ensures third.0 in
+    let first = c.value_under.ensures second.0 in
+    let tbs = (certificate_of c.args.certificate.now).tbs in (
+      first.0,
+      third.1
+          ∙ ap (λ ts. written (ts ++ key (codes "validator") ∷ []) (validator_report (is_signed_part_sound tbs) (signed_part_messages tbs))) (second.1
+          ∙ ap (λ ts. written (ts ++ key (codes "tbs_length") ∷ []) (count (length tbs.raw))) first.1),
+    )

@@ -8,4 +8,13 @@ use Rattle.x509_report_objects.specs.Lists.{first_parsed, number_report}
 use Rattle.x509_report_objects.proofs.lists.say_contents.Goals as goal
 
 pub returns : goal.returns
-returns c = c.in_ok-crl_extensions_under.ensures ∙ ap (λ ts. written (ts ++ key (codes "extensions") ∷ []) (list_of extension_report (tbs_list_of c.args.tbs.now).extensions)) (c.in_ok-crl_number_under.ensures ∙ ap (λ ts. written (ts ++ key (codes "crl_number") ∷ []) (number_report (first_parsed objects.crl_number (tbs_list_of c.args.tbs.now).extensions))) c.in_ok-entry_count_under.ensures)
+returns c = λ kept.
+    let third = c.crl_extensions_under.ensures kept in
+    let second = c.crl_number_under.ensures third.0 in
+    let first = c.entry_count_under.ensures second.0 in
+    let extensions = (tbs_list_of c.args.tbs.now).extensions in (
+      first.0,
+      third.1
+          ∙ ap (λ ts. written (ts ++ key (codes "extensions") ∷ []) (list_of extension_report extensions)) (second.1
+          ∙ ap (λ ts. written (ts ++ key (codes "crl_number") ∷ []) (number_report (first_parsed objects.crl_number extensions))) first.1),
+    )

@@ -13,8 +13,8 @@ returns-then-not-plain g c =
     let read = read_where is_x509_memory true (λ x. (x.0.now, o.view x.1)) o.telling.field o.laws c.args.octets.now (λ k. omega (arith, c.type_inv.octets k)) (Ok _) c.in-Ok.ensures.exact in
     search (rules, read)
 
-pub returns-in_ok-say_object-in-Ok : goal.returns-in_ok-say_object-in-Ok
-returns-in_ok-say_object-in-Ok g c =
+pub returns-else-wishes : goal.returns-else-wishes
+returns-else-wishes g c =
     let o = g.T.Reported in
     let read = read_where is_x509_memory true (λ x. (x.0.now, o.view x.1)) o.telling.field o.laws c.args.octets.now (λ k. omega (arith, c.type_inv.octets k)) (Ok _) c.in-Ok.ensures.exact in
     search (rules, read)

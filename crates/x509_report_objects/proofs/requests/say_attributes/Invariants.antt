@@ -1,8 +1,8 @@
-use Rattle.std.proofs.Common.{◌≡◌, map, take}
+use Rattle.std.proofs.Common.{map, take}
 use Rattle.x509_requests.specs.CriAttribute.{attribute_of}
-use Rattle.x509_report_lines.specs.Says.{each_written}
+use Rattle.x509_report_lines.specs.Says.{SaysEach}
 use Rattle.x509_report_objects.specs.Requests.{attribute_report}
 use Rattle.x509_report_objects.proofs.requests.say_attributes.Given as goal
 
 abbrev pub invariant-loop-attribute : goal.invariant-loop-attribute
-invariant-loop-attribute l = l.out ≡ each_written attribute_report l.initial.out (map attribute_of (take l.attribute-index l.attributes))
+invariant-loop-attribute l = SaysEach l.initial.out l.out attribute_report (map attribute_of (take l.attribute-index l.attributes))

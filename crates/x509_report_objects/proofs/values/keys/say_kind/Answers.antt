@@ -9,6 +9,7 @@ use Rattle.x509_report_objects.proofs.values.keys.say_kind.Goals as goal
 
 -- the second member behind the first
 pub returns : goal.returns
-returns c =
-    c.in_ok-kind_under.ensures
-    ∙ ap (λ ts. written (ts ++ key (codes "kind") ∷ []) (kind_report (algorithm_in (key_info_of c.args.info.now)))) c.in_ok-algorithm_under.ensures
+returns c = λ kept.
+    let second = c.kind_under.ensures kept in
+    let first = c.algorithm_under.ensures second.0 in
+    (first.0, second.1 ∙ ap (λ ts. written (ts ++ key (codes "kind") ∷ []) (kind_report (algorithm_in (key_info_of c.args.info.now)))) first.1)
