@@ -46,14 +46,15 @@ pub extern "C" fn rtv_json(
         label: None,
     };
     let mut line = Line::new(alloc);
-    match object_line(&mut line, &wishes(kind, strict), &place, der) {
-        Ok(Some(_)) => {
-            *length = put_text(line.into_text().as_slice(), text);
-            OK
-        }
-        Ok(None) => {
-            *length = put_text(line.into_text().as_slice(), text);
-            NOT_FOUND
+    let status = match object_line(&mut line, &wishes(kind, strict), &place, der) {
+        Ok(Some(_)) => OK,
+        Ok(None) => NOT_FOUND,
+        Err(_) => return OUT_OF_MEMORY,
+    };
+    match line.into_text() {
+        Ok(json) => {
+            *length = put_text(json.as_slice(), text);
+            status
         }
         Err(_) => OUT_OF_MEMORY,
     }

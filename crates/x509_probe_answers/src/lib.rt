@@ -8,7 +8,7 @@ mod show;
 
 pub use objects::number_in;
 pub use show::{
-    Answer, Hasher, Look, Octets, Show, Text, both, look_at, look_in, put_all, put_result,
+    Answer, Hasher, Octets, Show, Tells, Text, both, look_at, look_in, put_all, put_result,
     read_both,
 };
 

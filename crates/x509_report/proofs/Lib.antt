@@ -1,4 +1,4 @@
-pub mod Leads
+pub mod Prints
 pub mod Labels
 pub mod Choices
 pub mod Seen

@@ -1,11 +1,10 @@
 -- The elements of an object, a line each, with marks where a reader refuses it and where values of extensions are refused: lines for people, or
 -- parts of a page.
-use Rattle.std.specs.Prelude.{ℕ, suc, ◌+◌, ◌-◌, ◌&&◌, nat_lt, nat_le, Bool, List, [], ◌∷◌, ◌++◌, Result, Ok, Err, codes, drop, flat_map, length, take, if◌then◌else◌}
+use Rattle.std.specs.Prelude.{ℕ, suc, ◌+◌, ◌-◌, ◌&&◌, nat_lt, nat_le, Bool, List, [], ◌∷◌, ◌++◌, codes, drop, flat_map, length, take, if◌then◌else◌}
 use Rattle.x509_der.specs.Words.{refusal_word}
 use Rattle.x509_der.specs.declared.error.Located.{Located}
-use Rattle.x509_elements.specs.Elements.{Line, elements_of, line_of}
+use Rattle.x509_elements.specs.Elements.{Line, elements_of}
 use Rattle.x509_elements.specs.RefusedValues.{refused_values}
-use Rattle.x509_elements.specs.declared.line.DumpLine.{DumpLine as RustLine}
 use Rattle.x509_elements.specs.declared.part.Part.{Part}
 use Rattle.x509_elements.specs.declared.refused.refused_value.RefusedValue.{RefusedValue}
 use Rattle.x509_fields.specs.Errors.{x509_word}
@@ -109,19 +108,6 @@ end_told forms.Text view octets vs opened = marks_behind forms.Text view octets 
 unfoldable pub marked_lines : Form → View → List ℕ → List RefusedValue → ℕ → List Line → List (List ℕ)
 marked_lines form view octets vs opened [] = end_told form view octets vs opened ∷ []
 marked_lines form view octets vs opened (l ∷ ls) = marked form view vs opened l ∷ marked_lines form view octets (values_behind l vs) (open_told form l) ls
-
--- what is told of a line that was found, how many parts are open behind it, and how many values are marked there; nothing where memory was refused
-abbrev pub found_lines : {E : Type 0} → Form → View → List RefusedValue → ℕ → Result RustLine E → List (List ℕ)
-found_lines form view vs opened (Ok line) = marked form view vs opened (line_of line) ∷ []
-found_lines form view vs opened (Err e) = []
-
-abbrev pub open_found : {E : Type 0} → Form → Result RustLine E → ℕ
-open_found form (Ok line) = open_told form (line_of line)
-open_found form (Err e) = 0
-
-abbrev pub count_found : {E : Type 0} → List RefusedValue → Result RustLine E → ℕ
-count_found vs (Ok line) = count_in (line_of line) vs
-count_found vs (Err e) = 0
 
 -- ---- all of them
 

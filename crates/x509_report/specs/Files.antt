@@ -12,16 +12,14 @@ use Rattle.x509_report.specs.Labels.{kind_in, label_text, only, wants_any}
 use Rattle.x509_report.specs.Objects.{Asks, asks_of, lines_of_object}
 use Rattle.x509_report.specs.Told.{Told, WritesFront, both, nothing, one, text}
 use Rattle.x509_report.specs.declared.options.Asked.{Asked}
-use Rattle.x509_report.specs.declared.options.Form.{Form}
 
 -- what is asked of a file, and its name
 pub record Task : Type 0 where
   pub asks : Asks
-  pub form : Form
   pub file : List ℕ
 
-abbrev pub task_of : Asked → Form → List ℕ → Task
-task_of asked form file = record { asks = asks_of asked; form = form; file = file }
+abbrev pub task_of : Asked → List ℕ → Task
+task_of asked file = record { asks = asks_of asked; file = file }
 
 -- ---- elements of DER, one behind another
 
@@ -29,7 +27,7 @@ abbrev pub element_at : Task → ℕ → ℕ → Found
 element_at t index offset = record { file = t.file; index = index; offset = offset; label = None }
 
 abbrev pub element_told : Task → ℕ → ℕ → List ℕ → Told
-element_told t index offset octets = lines_of_object t.asks t.form (element_at t index offset) octets
+element_told t index offset octets = lines_of_object t.asks (element_at t index offset) octets
 
 -- elements, the first of which is the so manyth of the file, and stands at this octet
 unfoldable pub elements_told : Task → ℕ → ℕ → List (List ℕ) → Told
@@ -48,33 +46,33 @@ der_told t octets elements rest = both (elements_told t 0 0 elements) (rest_told
 abbrev pub block_at : Task → ℕ → Pem → Found
 block_at t index b = record { file = t.file; index = index; offset = b.at; label = label_text b.label }
 
-abbrev pub failed : Asks → Form → Found → List ℕ → List ℕ → List ℕ → Told
-failed a form p octets kind word = one form false (failed_report a.wishes p octets kind word)
+abbrev pub failed : Asks → Found → List ℕ → List ℕ → List ℕ → Told
+failed a p octets kind word = one a.form false (failed_report a.wishes p octets kind word)
 
-abbrev pub skipped : Asks → Form → Found → List ℕ → Told
-skipped a form p octets = one form true (skipped_report a.wishes p octets)
+abbrev pub skipped : Asks → Found → List ℕ → Told
+skipped a p octets = one a.form true (skipped_report a.wishes p octets)
 
 -- the object that a base64 text stands for (RFC 4648, section 4)
-abbrev pub decoded_told : {E : Type 0} → Asks → Form → Found → List ℕ → Result (List ℕ) E → Told
-decoded_told a form p symbols (Ok octets) = lines_of_object a form p octets
-decoded_told a form p symbols (Err e) = failed a form p symbols (codes "base64") (codes "not base64")
+abbrev pub decoded_told : {E : Type 0} → Asks → Found → List ℕ → Result (List ℕ) E → Told
+decoded_told a p symbols (Ok octets) = lines_of_object a p octets
+decoded_told a p symbols (Err e) = failed a p symbols (codes "base64") (codes "not base64")
 
-abbrev pub symbols_told : Asks → Form → Found → List ℕ → Told
-symbols_told a form p symbols = decoded_told a form p symbols (decode_of standard symbols)
+abbrev pub symbols_told : Asks → Found → List ℕ → Told
+symbols_told a p symbols = decoded_told a p symbols (decode_of standard symbols)
 
 -- a block that holds an object, where objects of its kind are wanted, and has an end
-abbrev pub whole_told : Asks → Form → Found → Pem → Told
-whole_told a form p b =
-    if not (wants_any a.wishes) then skipped a form p b.symbols
-    else if b.whole then symbols_told a form p b.symbols
-    else failed a form p b.symbols (codes "pem") (codes "no END line")
+abbrev pub whole_told : Asks → Found → Pem → Told
+whole_told a p b =
+    if not (wants_any a.wishes) then skipped a p b.symbols
+    else if b.whole then symbols_told a p b.symbols
+    else failed a p b.symbols (codes "pem") (codes "no END line")
 
-abbrev pub kind_told : Asks → Form → Found → Pem → Option Kind → Told
-kind_told a form p b (Some kind) = whole_told (record { wishes = only a.wishes kind; entries = a.entries; dump = a.dump }) form p b
-kind_told a form p b None = skipped a form p b.symbols
+abbrev pub kind_told : Asks → Found → Pem → Option Kind → Told
+kind_told a p b (Some kind) = whole_told (record a { wishes = only a.wishes kind }) p b
+kind_told a p b None = skipped a p b.symbols
 
 unfoldable pub block_told : Task → ℕ → Pem → Told
-block_told t index b = kind_told t.asks t.form (block_at t index b) b (kind_in (label_text b.label))
+block_told t index b = kind_told t.asks (block_at t index b) b (kind_in (label_text b.label))
 
 unfoldable pub blocks_told : Task → ℕ → List Pem → Told
 blocks_told t n [] = nothing
@@ -90,7 +88,7 @@ abbrev pub is_empty : {X : Type 0} → List X → Bool
 is_empty xs = length xs == 0
 
 abbrev pub neither_told : Task → List ℕ → Told
-neither_told t octets = failed t.asks t.form (element_at t 0 0) octets (codes "file") (codes "neither PEM nor DER")
+neither_told t octets = failed t.asks (element_at t 0 0) octets (codes "file") (codes "neither PEM nor DER")
 
 -- where no element is whole: PEM, or DER that is refused as a whole, or neither of the two
 abbrev pub other_told : Task → List ℕ → Told

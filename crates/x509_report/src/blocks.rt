@@ -5,15 +5,13 @@ ghost use Rattle.x509_report_objects.specs.Attempts.{found_of, wishes_of};
 ghost use Rattle.x509_report.specs.Files.{block_told, kind_told, symbols_told, task_of, whole_told};
 ghost use Rattle.x509_report.specs.Labels.{kind_in, kind_labelled, label_text, only, wants_any};
 ghost use Rattle.x509_report.specs.Objects.{asks_of};
-ghost use Rattle.x509_report.specs.Told.{PrintsTold};
+ghost use Rattle.x509_report.specs.Told.{Prints};
 
 use crate::options::Asked;
 use crate::printer::Printer;
 use crate::reports::{report_failed, report_object, report_skipped};
-use crate::stop::Stop;
 use base64::DecodeAllocError;
 use base64::engine::general_purpose::STANDARD;
-use std::alloc::Global;
 use std::io::Write;
 use std::str;
 use x509_report_lines::Block;
@@ -72,88 +70,73 @@ fn wants_any(wishes: &Wishes) -> bool
     wishes.certificates || wishes.lists || wishes.requests
 }
 
-/// The object whose base64 text this is. Tells whether it was taken.
+/// The object whose base64 text this is.
+#[tactic(auto, using(crate::proofs::Prints::printing))]
 fn report_symbols<W: Write>(
-    alloc: Global,
     printer: &mut Printer<W>,
     asked: &Asked,
     place: &Found<'_>,
     symbols: &[u8],
-) -> Result<bool, Stop>
-    ensures { PrintsTold W.contents printer.old printer.new
-        (symbols_told (asks_of asked.now) printer.old.form (found_of place.now) symbols.now) result }
+)
+    ensures { Prints printer.old printer.new (symbols_told (asks_of asked.now) (found_of place.now) symbols.now) }
 {
-    match STANDARD.decode(alloc, symbols) {
-        Ok(octets) => report_object(alloc, printer, asked, place, &octets),
-        Err(DecodeAllocError::OutOfMemory) => Err(Stop::Memory),
-        Err(_) => report_failed(
-            alloc,
-            printer,
-            asked,
-            place,
-            symbols,
-            "base64",
-            "not base64",
-        ),
+    match STANDARD.decode(printer.alloc(), symbols) {
+        Ok(octets) => report_object(printer, asked, place, &octets),
+        Err(DecodeAllocError::OutOfMemory) => printer.stop(),
+        Err(_) => report_failed(printer, asked, place, symbols, "base64", "not base64"),
     }
 }
 
-/// The object of a block, where one of its kind is wanted. Tells whether it was taken, or passed over.
+/// The object of a block, where one of its kind is wanted.
 fn report_wanted<W: Write>(
-    alloc: Global,
     printer: &mut Printer<W>,
     asked: &Asked,
     place: &Found<'_>,
     block: &Block<'_>,
-) -> Result<bool, Stop>
-    ensures { PrintsTold W.contents printer.old printer.new (whole_told (asks_of asked.now) printer.old.form (found_of place.now) block.now) result }
+)
+    ensures { Prints printer.old printer.new (whole_told (asks_of asked.now) (found_of place.now) block.now) }
 {
     let symbols = block.symbols();
     if !wants_any(&asked.wishes) {
-        report_skipped(alloc, printer, asked, place, symbols)
+        report_skipped(printer, asked, place, symbols)
     } else if block.is_whole() {
-        report_symbols(alloc, printer, asked, place, symbols)
+        report_symbols(printer, asked, place, symbols)
     } else {
-        report_failed(alloc, printer, asked, place, symbols, "pem", "no END line")
+        report_failed(printer, asked, place, symbols, "pem", "no END line")
     }
 }
 
-/// The line of a block that holds this. One that holds no object is told and passed over. Tells whether it was taken, or passed over.
+/// The line of a block that holds this. One that holds no object is told and passed over.
 fn report_kind<W: Write>(
-    alloc: Global,
     printer: &mut Printer<W>,
     asked: &Asked,
     place: &Found<'_>,
     block: &Block<'_>,
     kind: Option<Kind>,
-) -> Result<bool, Stop>
-    ensures { PrintsTold W.contents printer.old printer.new
-        (kind_told (asks_of asked.now) printer.old.form (found_of place.now) block.now kind) result }
+)
+    ensures { Prints printer.old printer.new (kind_told (asks_of asked.now) (found_of place.now) block.now kind) }
 {
     match kind {
         Some(kind) => {
             let asked = Asked {
                 wishes: only(&asked.wishes, kind),
-                entries: asked.entries,
-                dump: asked.dump,
+                ..*asked
             };
-            report_wanted(alloc, printer, &asked, place, block)
+            report_wanted(printer, &asked, place, block)
         }
-        None => report_skipped(alloc, printer, asked, place, block.symbols()),
+        None => report_skipped(printer, asked, place, block.symbols()),
     }
 }
 
-/// The line of a block. One whose label is that of no object that is wanted is told and passed over. Tells whether it was taken, or passed
-/// over.
+/// The line of a block. One whose label is that of no object that is wanted is told and passed over.
 pub fn report_block<W: Write>(
-    alloc: Global,
     printer: &mut Printer<W>,
     asked: &Asked,
     file: &str,
     index: usize,
     block: &Block<'_>,
-) -> Result<bool, Stop>
-    ensures { PrintsTold W.contents printer.old printer.new (block_told (task_of asked.now printer.old.form file.now) index block.now) result }
+)
+    ensures { Prints printer.old printer.new (block_told (task_of asked.now file.now) index block.now) }
 {
     let label = label_text(block.label());
     let place = Found {
@@ -163,5 +146,5 @@ pub fn report_block<W: Write>(
         label,
     };
     let kind = kind_in(label);
-    report_kind(alloc, printer, asked, &place, block, kind)
+    report_kind(printer, asked, &place, block, kind)
 }

@@ -1,19 +1,18 @@
 //! The elements of an object, a line each, with marks where a reader refuses it and where values of extensions are refused: for people, or as a
 //! part of a page.
 
-ghost use Rattle.std.specs.Prelude.{◌≡◌, ◌++◌, ◌+◌, ◌≤◌, length, nat_lt, IfOk, IsOk, OnOk, string_bytes};
+ghost use Rattle.std.specs.Prelude.{◌≡◌, ◌∷◌, [], ◌++◌, ◌+◌, ◌≤◌, length, nat_lt, IfOk, string_bytes};
 ghost use Rattle.x509_elements.specs.Elements.{elements_of, line_of};
 ghost use Rattle.x509_report_lines.specs.Kept.{Grows};
 ghost use Rattle.x509_report_objects.specs.Attempts.{wishes_of};
-ghost use Rattle.x509_report.specs.Dumps.{count_found, count_in, dump_lines, dump_told, element_line, end_told, found_lines, held, holds, mark, mark_behind};
-ghost use Rattle.x509_report.specs.Dumps.{mark_in, marked_lines, marks_behind, open_found, open_told, refusal_words, section_end, section_page};
+ghost use Rattle.x509_report.specs.Dumps.{count_in, dump_lines, dump_told, element_line, end_told, held, holds, mark, mark_behind};
+ghost use Rattle.x509_report.specs.Dumps.{mark_in, marked_lines, marks_behind, open_told, refusal_words, section_end, section_page};
 ghost use Rattle.x509_report.specs.Dumps.{value_marks, value_words};
-ghost use Rattle.x509_report.specs.Told.{Prints, Tells};
+ghost use Rattle.x509_report.specs.Told.{Prints, alone};
 ghost use Rattle.x509_report.specs.Views.{part_of, view_of};
 
 use crate::options::Form;
 use crate::printer::Printer;
-use crate::stop::Stop;
 use crate::views::{View, part_of, part_word, view_of};
 use std::alloc::{AllocError, Global};
 use std::io::Write;
@@ -160,27 +159,6 @@ fn push_told(form: Form, text: &mut Text, opened: usize, line: &DumpLine<'_>) ->
     }
 }
 
-/// The line of an element, and below it the mark of the object and those of values. Tells how many parts are open behind it.
-#[tactic(auto, using(crate::proofs::ElementLines::texts))]
-fn line_text(
-    alloc: Global,
-    form: Form,
-    view: &View,
-    values: &[RefusedValue],
-    opened: usize,
-    line: &DumpLine<'_>,
-) -> Result<(String, usize), AllocError>
-    ensures text { IfOk result (λ r. string_bytes r.0
-        ≡ element_line form opened (line_of line.now) ++ (mark_in form view.now (line_of line.now) ++ value_marks form values.now)) }
-    ensures opened { IfOk result (λ r. r.1 ≡ open_told form (line_of line.now)) }
-{
-    let mut text = Text::new(alloc);
-    let open = push_told(form, &mut text, opened, line);
-    push_mark_in(form, &mut text, view, line);
-    push_value_marks(form, &mut text, values);
-    Ok((text.into_string()?, open))
-}
-
 /// Adds the marks behind the last line: of values that are left, and of the object where the octet is none of it.
 #[tactic(auto, unfolding(crate::specs::Dumps::marks_behind))]
 fn push_marks_behind(
@@ -207,113 +185,124 @@ fn push_end(page: &mut Text, view: &View, octets: &[u8], values: &[RefusedValue]
     page.push_str("</section>\n");
 }
 
+/// Adds what stands behind the last line.
+fn push_behind(
+    form: Form,
+    text: &mut Text,
+    view: &View,
+    octets: &[u8],
+    values: &[RefusedValue],
+    opened: usize,
+)
+    ensures { Grows text.old text.new (end_told form view.now octets.now values.now opened) }
+{
+    match form {
+        Form::Html => push_end(text, view, octets, values, opened),
+        Form::Json | Form::Text => push_marks_behind(form, text, view, octets, values),
+    }
+}
+
+/// The line of an element, where so many parts are open, and below it the mark of the object and those of values. Tells how many parts are
+/// open behind it.
+fn report_line<W: Write>(
+    printer: &mut Printer<W>,
+    form: Form,
+    view: &View,
+    values: &[RefusedValue],
+    opened: usize,
+    line: &DumpLine<'_>,
+) -> usize
+    ensures lines { Prints printer.old printer.new (alone ((element_line form opened (line_of line.now)
+        ++ (mark_in form view.now (line_of line.now) ++ value_marks form values.now)) ∷ [])) }
+    ensures opened { result ≡ open_told form (line_of line.now) }
+{
+    let mut text = Text::new(printer.alloc());
+    let open = push_told(form, &mut text, opened, line);
+    push_mark_in(form, &mut text, view, line);
+    push_value_marks(form, &mut text, values);
+    printer.put_text(&text);
+    open
+}
+
 /// What stands behind the last line.
-fn end_text(
-    alloc: Global,
+fn report_end<W: Write>(
+    printer: &mut Printer<W>,
     form: Form,
     view: &View,
     octets: &[u8],
     values: &[RefusedValue],
     opened: usize,
-) -> Result<String, AllocError>
-    ensures { IfOk result (λ text. string_bytes text ≡ end_told form view.now octets.now values.now opened) }
+)
+    ensures { Prints printer.old printer.new (alone (end_told form view.now octets.now values.now opened ∷ [])) }
 {
-    let mut text = Text::new(alloc);
-    match form {
-        Form::Html => push_end(&mut text, view, octets, values, opened),
-        Form::Json | Form::Text => push_marks_behind(form, &mut text, view, octets, values),
-    }
-    text.into_string()
-}
-
-/// A line that was found, where so many parts are open, with the marks of those of the values that stand below it. Tells how many parts are
-/// open behind it, and how many values these are.
-fn report_found<W: Write>(
-    alloc: Global,
-    form: Form,
-    printer: &mut Printer<W>,
-    view: &View,
-    values: &[RefusedValue],
-    opened: usize,
-    found: Result<DumpLine<'_>, AllocError>,
-) -> Result<(usize, usize), Stop>
-    ensures lines { Tells result (W.contents printer.old.out) (W.contents printer.new.out) (found_lines form view.now values.now opened found.entry) }
-    ensures found { OnOk result (IsOk found.entry) }
-    ensures opened { IfOk result (λ r. r.0 ≡ open_found form found.entry) }
-    ensures count { IfOk result (λ r. r.1 ≡ count_found values.now found.entry) }
-    ensures within { IfOk result (λ r. r.1 ≤ length values.now) }
-    ensures form { printer.new.form ≡ printer.old.form }
-{
-    let line = found?;
-    let count = count_in(values, &line);
-    let (text, open) = line_text(alloc, form, view, &values[..count], opened, &line)?;
-    printer.put_text(text.as_str())?;
-    Ok((open, count))
+    let mut text = Text::new(printer.alloc());
+    push_behind(form, &mut text, view, octets, values, opened);
+    printer.put_text(&text);
 }
 
 /// The lines of the elements, and what stands behind the last.
 fn report_lines<W: Write>(
-    alloc: Global,
-    form: Form,
     printer: &mut Printer<W>,
+    form: Form,
     view: &View,
     values: &[RefusedValue],
     octets: &[u8],
-) -> Result<(), Stop>
-    ensures { Prints W.contents printer.old printer.new
-        (marked_lines form view.now octets.now values.now 0 (elements_of (part_of view.now) octets.now)) result }
+)
+    ensures { Prints printer.old printer.new
+        (alone (marked_lines form view.now octets.now values.now 0 (elements_of (part_of view.now) octets.now))) }
 {
     let mut left = values;
     let mut opened = 0;
-    for found in dump(alloc, part_of(view), octets) {
-        let (open, count) = report_found(alloc, form, printer, view, left, opened, found)?;
+    for found in dump(printer.alloc(), part_of(view), octets) {
+        if printer.has_stopped() {
+            return;
+        }
+        let Ok(line) = found else {
+            return printer.stop();
+        };
+        let count = count_in(left, &line);
+        opened = report_line(printer, form, view, &left[..count], opened, &line);
         left = behind(left, count);
-        opened = open;
     }
-    let text = end_text(alloc, form, view, octets, left, opened)?;
-    printer.put_text(text.as_str())
+    report_end(printer, form, view, octets, left, opened);
 }
 
 /// The elements of an object as it is seen.
-fn report_view<W: Write>(
-    alloc: Global,
-    form: Form,
-    printer: &mut Printer<W>,
-    view: &View,
-    octets: &[u8],
-) -> Result<(), Stop>
-    ensures { Prints W.contents printer.old printer.new (dump_lines form view.now octets.now) result }
+#[tactic(auto, using(crate::proofs::Prints::printing))]
+fn report_view<W: Write>(printer: &mut Printer<W>, form: Form, view: &View, octets: &[u8])
+    ensures { Prints printer.old printer.new (alone (dump_lines form view.now octets.now)) }
 {
-    let values = refused_values(alloc, part_of(view), octets)?;
-    report_lines(alloc, form, printer, view, values.as_slice(), octets)
+    if printer.has_stopped() {
+        return;
+    }
+    match refused_values(printer.alloc(), part_of(view), octets) {
+        Ok(values) => report_lines(printer, form, view, values.as_slice(), octets),
+        Err(_) => printer.stop(),
+    }
 }
 
 /// The same, as a section of a page.
-fn report_section<W: Write>(
-    alloc: Global,
-    printer: &mut Printer<W>,
-    view: &View,
-    octets: &[u8],
-) -> Result<(), Stop>
-    ensures { Prints W.contents printer.old printer.new (section_page view.now octets.now) result }
+#[tactic(auto, using(crate::proofs::Prints::printing), unfolding(crate::specs::Dumps::section_page))]
+fn report_section<W: Write>(printer: &mut Printer<W>, view: &View, octets: &[u8])
+    ensures { Prints printer.old printer.new (alone (section_page view.now octets.now)) }
 {
-    printer.put_text("<section>\n")?;
-    report_view(alloc, Form::Html, printer, view, octets)
+    printer.write(b"<section>\n");
+    report_view(printer, Form::Html, view, octets);
 }
 
 /// The elements of an object, named by the reader that it is seen by, and a mark where that refuses it.
-pub fn report_dump<W: Write>(
-    alloc: Global,
-    printer: &mut Printer<W>,
-    wishes: &Wishes,
-    octets: &[u8],
-) -> Result<(), Stop>
-    ensures { Prints W.contents printer.old printer.new (dump_told printer.old.form (view_of (wishes_of wishes.now) octets.now) octets.now) result }
+#[tactic(auto, using(crate::proofs::Prints::printing))]
+pub fn report_dump<W: Write>(printer: &mut Printer<W>, form: Form, wishes: &Wishes, octets: &[u8])
+    ensures { Prints printer.old printer.new (alone (dump_told form (view_of (wishes_of wishes.now) octets.now) octets.now)) }
 {
-    let view = view_of(alloc, wishes, octets)?;
-    let form = printer.form();
+    if printer.has_stopped() {
+        return;
+    }
+    let Ok(view) = view_of(printer.alloc(), wishes, octets) else {
+        return printer.stop();
+    };
     match form {
-        Form::Html => report_section(alloc, printer, &view, octets),
-        Form::Json | Form::Text => report_view(alloc, form, printer, &view, octets),
+        Form::Html => report_section(printer, &view, octets),
+        Form::Json | Form::Text => report_view(printer, form, &view, octets),
     }
 }

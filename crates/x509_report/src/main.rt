@@ -16,7 +16,6 @@ use crate::files::{read_all, report_file};
 use crate::options::{Options, parse_options};
 use crate::printer::Printer;
 use crate::progress::Progress;
-use crate::stop::Stop;
 use std::alloc::Global;
 use std::fs::File;
 use std::io::BufWriter;
@@ -44,8 +43,9 @@ fn read(rt: &HostRuntime, file: &str) -> io::Result<Vec<u8>> {
 fn report_files(rt: &HostRuntime, options: &Options<'_>) -> io::Result<u8> {
     let alloc: Global = rt.alloc();
     let out = BufWriter::new(alloc, Progress::new(rt, io::writer(rt)))?;
-    let mut printer = Printer::new(alloc, options.form, out);
-    printer.put_around(&HEAD)?;
+    let mut printer = Printer::new(alloc, out);
+    let form = options.asked.form;
+    printer.put_around(form, &HEAD)?;
     let mut status = TAKEN;
     for file in &options.files {
         let octets = match read(rt, file) {
@@ -56,7 +56,7 @@ fn report_files(rt: &HostRuntime, options: &Options<'_>) -> io::Result<u8> {
                 continue;
             }
         };
-        match report_file(alloc, &mut printer, &options.asked, file, &octets) {
+        match report_file(&mut printer, &options.asked, file, &octets) {
             Ok(true) => {}
             Ok(false) => {
                 if status == TAKEN {
@@ -70,8 +70,8 @@ fn report_files(rt: &HostRuntime, options: &Options<'_>) -> io::Result<u8> {
             }
         }
     }
-    printer.put_around(&FOOT)?;
-    printer.finish()?;
+    printer.put_around(form, &FOOT)?;
+    printer.flush()?;
     Ok(status)
 }
 

@@ -20,6 +20,8 @@ pub enum Form {
 pub struct Asked {
     /// What is wanted of a report.
     pub wishes: Wishes,
+    /// How reports are written.
+    pub form: Form,
     /// Whether each entry of a list gets a line of its own.
     pub entries: bool,
     /// Whether the elements of each object are told.
@@ -29,8 +31,6 @@ pub struct Asked {
 /// What the command line asks for.
 #[derive(Drop)]
 pub struct Options<'a> {
-    /// How reports are written.
-    pub form: Form,
     /// What is asked of every object.
     pub asked: Asked,
     /// The files in order; `-` is standard input.
@@ -120,9 +120,9 @@ pub fn parse_options<'a>(alloc: Global, words: &'a [String]) -> Result<Options<'
     let files = files_of(alloc, &matches)?;
     let form = form_of(&matches);
     Ok(Options {
-        form,
         asked: Asked {
             wishes: wishes_of(&matches),
+            form,
             entries: matches.get_flag("entries"),
             dump: matches.get_flag("dump") || form == Form::Html,
         },

@@ -1,27 +1,40 @@
-//! Where lines are written, and in what form.
+//! Where lines are written.
 
-ghost use Rattle.std.specs.Prelude.{◌≡◌, ◌∷◌, [], IfOk, string_bytes};
+ghost use Rattle.std.specs.Prelude.{◌≡◌, ℕ, List, ◌∷◌, [], IfOk, None, OnErr, OnOk, is_some, string_bytes, true};
 ghost use Rattle.std.specs.Str.{IsUtf8};
 ghost use Rattle.json.specs.Lex.{tokens};
 ghost use Rattle.x509_report_lines.specs.Kept.{kept};
 ghost use Rattle.x509_report_lines.specs.Lines.{text_of};
 ghost use Rattle.x509_report.specs.Texts.{article_page, begun, line_text, object_lines};
-ghost use Rattle.x509_report.specs.Told.{Prints};
+ghost use Rattle.x509_report.specs.Told.{Holds, Prints, alone, halted, outcome};
 
 use crate::options::Form;
 use crate::stop::Stop;
 use std::alloc::{AllocError, Global};
 use std::io::Write;
+use std::marker::Model;
 use std::{io, mem, str};
 use x509_report_lines::html::report_of_json;
-use x509_report_lines::{Line, lines_of_json};
+use x509_report_lines::{Line, Text, lines_of_json};
 
-/// Where lines are written, and in what form. The memory of a line that was written is that of the next.
+/// Where lines are written. Where memory is refused or a write fails it stops: nothing is written any more, and [`Printer::finish`] tells
+/// why, so that who writes has no failure to look at. It remembers too whether an object was refused. The memory of a line that was written
+/// is that of the next.
 #[derive(Drop)]
-pub struct Printer<W> {
+pub struct Printer<W: Write> {
+    alloc: Global,
     out: W,
-    form: Form,
     memory: Vec<u8>,
+    taken: bool,
+    stopped: Option<Stop>,
+}
+
+impl<W: Write> Model for Printer<W> {
+    ghost use Rattle.x509_report.specs.Told.{Printed};
+
+    ghost Value = { Printed };
+
+    ghost view = { λ p. record { written = W.contents p.out; taken = p.taken; stopped = p.stopped } };
 }
 
 /// The part of a page that a JSON text is.
@@ -52,82 +65,142 @@ fn lines_of(alloc: Global, json: &[u8]) -> Result<String, AllocError>
 
 impl<W: Write> Printer<W> {
     /// A printer that has written nothing.
-    pub fn new(alloc: Global, form: Form, out: W) -> Printer<W>
-        ensures out { result.out ≡ out }
-        ensures form { result.form ≡ form }
+    pub fn new(alloc: Global, out: W) -> Printer<W>
+        ensures { result ≡ record { written = W.contents out; taken = true; stopped = None } }
     {
         Printer {
+            alloc,
             out,
-            form,
             memory: Vec::new(alloc),
+            taken: true,
+            stopped: None,
+        }
+    }
+
+    /// Where its memory comes from.
+    pub fn alloc(&self) -> Global {
+        self.alloc
+    }
+
+    /// A file begins, of which no object was refused yet.
+    pub fn begin_file(&mut self)
+        ensures { self.new ≡ record self.old { taken = true } }
+    {
+        self.taken = true;
+    }
+
+    /// Whether it has stopped.
+    pub fn has_stopped(&self) -> bool
+        ensures { result ≡ is_some self.now.stopped }
+    {
+        self.stopped.is_some()
+    }
+
+    /// Memory was refused: nothing is written any more.
+    pub fn stop(&mut self)
+        ensures { self.new ≡ halted self.old }
+    {
+        if self.stopped.is_none() {
+            self.stopped = Some(Stop::Memory);
+        }
+    }
+
+    /// Whether every object of the file was taken.
+    ///
+    /// # Errors
+    ///
+    /// Why it has stopped.
+    pub fn finish(&self) -> Result<bool, Stop>
+        ensures { result ≡ outcome self.now }
+    {
+        match self.stopped {
+            None => Ok(self.taken),
+            Some(why) => Err(why),
         }
     }
 
     /// A line with nothing on it.
-    pub fn line(&mut self, alloc: Global) -> Line
+    pub fn line(&mut self) -> Line
         ensures empty { result ≡ kept [] }
-        ensures out { self.new.out ≡ self.old.out }
-        ensures form { self.new.form ≡ self.old.form }
+        ensures same { self.new ≡ self.old }
     {
-        Line::over(alloc, mem::replace(&mut self.memory, Vec::new(alloc)))
+        let memory = mem::replace(&mut self.memory, Vec::new(self.alloc));
+        Line::over(self.alloc, memory)
     }
 
-    /// Writes a line.
-    #[tactic(auto, using(crate::proofs::Leads::writing))]
-    pub fn put(&mut self, alloc: Global, line: Line) -> Result<(), Stop>
-        ensures { Prints W.contents self.old self.new (line_text self.old.form line.so_far ∷ []) result }
+    /// Writes octets as they stand.
+    pub fn write(&mut self, octets: &[u8])
+        ensures { Prints self.old self.new (alone (octets.now ∷ [])) }
     {
-        let mut text = line.into_text();
-        match self.form {
+        if self.stopped.is_none() && self.out.write_all(octets).is_err() {
+            self.stopped = Some(Stop::Write);
+        }
+    }
+
+    /// Writes a text, where all of it stands there.
+    pub fn put_text(&mut self, text: &Text)
+        ensures { (all : List ℕ) → Holds text.now all → Prints self.old self.new (alone (all ∷ [])) }
+    {
+        match text.as_str() {
+            Ok(text) => self.write(text.as_bytes()),
+            Err(_) => self.stop(),
+        }
+    }
+
+    /// Writes a line in a form. Where memory is refused for it, nothing is written.
+    fn put_json(&mut self, form: Form, line: Line) -> Result<(), AllocError>
+        ensures written { OnOk result (Prints self.old self.new (alone (line_text form line.so_far ∷ []))) }
+        ensures refused { OnErr result (self.new ≡ self.old) }
+    {
+        let mut text = line.into_text()?;
+        match form {
             Form::Json => {
                 text.push(b'\n')?;
-                self.out.write_all(&text)?;
+                self.write(&text);
             }
-            Form::Text => {
-                let lines = lines_of(alloc, &text)?;
-                self.out.write_all(lines.as_bytes())?;
-            }
-            Form::Html => {
-                let article = article_of(alloc, &text)?;
-                self.out.write_all(article.as_bytes())?;
-            }
+            Form::Text => self.write(lines_of(self.alloc, &text)?.as_bytes()),
+            Form::Html => self.write(article_of(self.alloc, &text)?.as_bytes()),
         }
         self.memory = text;
         Ok(())
     }
 
-    /// Begins an object.
-    fn begin(&mut self) -> Result<(), Stop>
-        ensures { Prints W.contents self.old self.new (begun self.old.form) result }
+    /// Writes a line in a form.
+    #[tactic(auto, using(crate::proofs::Prints::printing))]
+    pub fn put(&mut self, form: Form, line: Line)
+        ensures { Prints self.old self.new (alone (line_text form line.so_far ∷ [])) }
     {
-        match self.form {
-            Form::Html => self.put_text("<li>\n"),
-            Form::Json | Form::Text => Ok(()),
+        if self.put_json(form, line).is_err() {
+            self.stop();
         }
     }
 
-    /// Writes the line of an object, with which its item of a page begins.
-    pub fn put_object(&mut self, alloc: Global, line: Line) -> Result<(), Stop>
-        ensures { Prints W.contents self.old self.new (object_lines self.old.form line.so_far) result }
+    /// Begins an object.
+    #[tactic(auto, using(crate::proofs::Prints::printing))]
+    fn begin(&mut self, form: Form)
+        ensures { Prints self.old self.new (alone (begun form)) }
     {
-        self.begin()?;
-        self.put(alloc, line)
+        match form {
+            Form::Html => self.write(b"<li>\n"),
+            Form::Json | Form::Text => {}
+        }
     }
 
-    /// Writes a text as it stands.
-    #[tactic(auto, using(crate::proofs::Leads::writing))]
-    pub fn put_text(&mut self, text: &str) -> Result<(), Stop>
-        ensures { Prints W.contents self.old self.new (text.now ∷ []) result }
+    /// Writes the line of an object that was taken or wasn't, with which its item of a page begins.
+    #[tactic(auto, using(crate::proofs::Prints::printing))]
+    pub fn put_object(&mut self, form: Form, line: Line, taken: bool)
+        ensures { Prints self.old self.new (record { taken = taken; lines = object_lines form line.so_far }) }
     {
-        self.out.write_all(text.as_bytes())?;
-        Ok(())
+        self.begin(form);
+        self.put(form, line);
+        self.taken &= taken;
     }
 
     /// Writes pieces that stand around the objects of a page, where a page is written.
-    pub fn put_around(&mut self, pieces: &[&str]) -> io::Result<()>
-        ensures form { self.new.form ≡ self.old.form }
+    pub fn put_around(&mut self, form: Form, pieces: &[&str]) -> io::Result<()>
+        ensures { (self.new.taken ≡ self.old.taken) × (self.new.stopped ≡ self.old.stopped) }
     {
-        if self.form == Form::Html {
+        if form == Form::Html {
             for piece in pieces {
                 self.out.write_all(piece.as_bytes())?;
             }
@@ -135,15 +208,8 @@ impl<W: Write> Printer<W> {
         Ok(())
     }
 
-    /// In what form lines are written.
-    pub fn form(&self) -> Form
-        ensures { result ≡ self.now.form }
-    {
-        self.form
-    }
-
     /// Writes what is held back.
-    pub fn finish(&mut self) -> io::Result<()> {
+    pub fn flush(&mut self) -> io::Result<()> {
         self.out.flush()
     }
 }

@@ -4,8 +4,7 @@ ghost use Rattle.std.specs.Prelude.{◌≡◌, IfOk};
 ghost use Rattle.x509_report_objects.specs.Attempts.{wishes_of};
 ghost use Rattle.x509_report.specs.Views.{part_of, part_word, refusal_of, seen_by, seen_where, view_of};
 
-use crate::stop::Stop;
-use std::alloc::Global;
+use std::alloc::{AllocError, Global};
 use x509_certs::X509Certificate;
 use x509_der::{FromDer, Located};
 use x509_elements::Part;
@@ -29,13 +28,13 @@ pub enum View {
 fn refusal_of<'a, T: FromDer<'a, X509Error> + Drop>(
     alloc: Global,
     octets: &'a [u8],
-) -> Result<Option<Located<X509Error>>, Stop>
+) -> Result<Option<Located<X509Error>>, AllocError>
     ensures { IfOk result (λ r. r ≡ refusal_of T.plan octets.now) }
 {
     match T::from_der_located(alloc, octets) {
         Ok((_, _value)) => Ok(None),
         Err(refusal) => if refusal.why.is_out_of_memory() {
-            Err(Stop::Memory)
+            Err(AllocError)
         } else {
             Ok(Some(refusal))
         },
@@ -70,7 +69,7 @@ fn seen_where<'a, T: FromDer<'a, X509Error> + Drop>(
     view: View,
     part: Part,
     octets: &'a [u8],
-) -> Result<View, Stop>
+) -> Result<View, AllocError>
     ensures { IfOk result (λ v. v ≡ seen_where wanted view part (refusal_of T.plan octets.now)) }
 {
     if !wanted {
@@ -82,7 +81,7 @@ fn seen_where<'a, T: FromDer<'a, X509Error> + Drop>(
 
 /// Which of the readers that are wanted an object is seen by.
 #[tactic(auto, unfolding(crate::specs::Views::view_of))]
-pub fn view_of(alloc: Global, wishes: &Wishes, octets: &[u8]) -> Result<View, Stop>
+pub fn view_of(alloc: Global, wishes: &Wishes, octets: &[u8]) -> Result<View, AllocError>
     ensures { IfOk result (λ view. view ≡ view_of (wishes_of wishes.now) octets.now) }
 {
     let view = View::Nothing;

@@ -1,6 +1,6 @@
 //! A line of a report.
 
-ghost use Rattle.std.specs.Prelude.{◌≡◌, [], OnErr, OnOk, decimal, false, true};
+ghost use Rattle.std.specs.Prelude.{◌≡◌, [], IfOk, OnErr, OnOk, decimal, false, true};
 ghost use Rattle.std.specs.Fmt.{signed_decimal};
 ghost use Rattle.std.specs.Str.{IsUtf8};
 ghost use Rattle.json.specs.Token.{begin_object, end_object, begin_array, end_array, key, string, number, boolean, null};
@@ -85,14 +85,28 @@ impl Line {
         }
     }
 
-    /// The text of the line, without a newline.
-    pub fn into_text(self) -> Vec<u8>
-        ensures text { result.items ≡ print self.so_far }
-        ensures reads_back { tokens result.items ≡ self.so_far }
-        ensures utf8 { IsUtf8 result.items }
+    /// The text of the line, without a newline, where all of it stands there.
+    ///
+    /// # Errors
+    ///
+    /// `AllocError` where memory was refused.
+    pub fn into_text(self) -> Result<Vec<u8>, AllocError>
+        ensures whole { OnOk result (self.stopped ≡ false) }
+        ensures text { IfOk result (λ text. text.items ≡ print self.so_far) }
+        ensures reads_back { IfOk result (λ text. tokens text.items ≡ self.so_far) }
+        ensures utf8 { IfOk result (λ text. IsUtf8 text.items) }
+        ensures refused { OnErr result (self.stopped ≡ true) }
     {
-        let Line { writer, .. } = self;
-        writer.into_inner()
+        let Line {
+            writer,
+            stopped,
+            ..
+        } = self;
+        if stopped {
+            Err(AllocError)
+        } else {
+            Ok(writer.into_inner())
+        }
     }
 
     /// An object begins: keys and values follow, up to its end.

@@ -1,7 +1,10 @@
 //! Certificates by one call.
 
-use super::fixtures::{BITS, EXTENDED_BYTES, PLAIN_BYTES, SERIAL, joined, kept, replaced, whole};
+use super::fixtures::{
+    BITS, EXTENDED_BYTES, PLAIN_BYTES, SERIAL, certificate_in, joined, kept, replaced, whole,
+};
 use crate::prelude::*;
+use std::process::Abort;
 use std::test::Fail;
 use x509_der::{Err, Oid, Tries};
 
@@ -16,19 +19,24 @@ fn nothing(rt: HostRuntime) {
     assert!(rt; tries.count() == 0);
 }
 
-#[test]
-fn windows(rt: HostRuntime) -> Result<(), Fail> {
+// That this is the plain certificate. What is looked at stands first among the parameters (docs/WORKING.md, "What a proof costs").
+fn expect_plain(certificate: &X509Certificate<'_>, rt: &impl Abort) {
     let bytes: &[u8] = PLAIN_BYTES;
-    let certificate = whole(rt.alloc(), parse_x509_der(rt.alloc(), bytes))?;
     assert!(rt; certificate.version() == X509Version::V1);
     assert!(rt; certificate.tbs_certificate.serial.is_u32(1));
     assert!(rt; certificate.tbs_certificate.as_ref() == &bytes[2..58]);
     assert!(rt; certificate.as_raw() == bytes);
-    let longer = joined(rt.alloc(), &[bytes, b"\x05\x00"])?;
+    assert!(rt; certificate.as_ref() == bytes);
+}
+
+#[test]
+fn windows(rt: HostRuntime) -> Result<(), Fail> {
+    let certificate = whole(rt.alloc(), parse_x509_der(rt.alloc(), PLAIN_BYTES))?;
+    expect_plain(certificate, &rt);
+    let longer = joined(rt.alloc(), &[PLAIN_BYTES, b"\x05\x00"])?;
     let (rest, certificate) = kept(rt.alloc(), parse_x509_certificate(rt.alloc(), longer)?)?;
     assert!(rt; matches!(*rest, [5, 0]));
-    assert!(rt; certificate.as_raw() == bytes);
-    assert!(rt; certificate.as_ref() == bytes);
+    expect_plain(certificate, &rt);
     Ok(())
 }
 
@@ -41,6 +49,18 @@ const WRAPPERS: [[u8; 2]; 5] = [
     [0x23, 0x21],
 ];
 
+// That these are its octets, and that it has the key's identifier.
+fn expect_extended(certificate: &X509Certificate<'_>, bytes: &[u8; 106], rt: &impl Abort) {
+    let bytes: &[u8] = bytes;
+    assert!(rt; certificate.version() == X509Version::V3);
+    assert!(rt; certificate.as_raw() == bytes);
+    assert!(rt; certificate.tbs_certificate.as_ref() == &bytes[2..98]);
+    assert!(rt;
+        matches!(certificate.extensions(), [e]
+            if e.oid.as_bytes() == b"\x55\x1D\x0E".as_slice() && !e.critical && e.value == &bytes[76..98])
+    );
+}
+
 /// It is known by its number alone.
 #[test]
 fn key_identifier(rt: HostRuntime) -> Result<(), Fail> {
@@ -49,13 +69,7 @@ fn key_identifier(rt: HostRuntime) -> Result<(), Fail> {
         bytes[63] = identifier;
         bytes[64] = length;
         let certificate = whole(rt.alloc(), parse_x509_certificate(rt.alloc(), &bytes))?;
-        assert!(rt; certificate.version() == X509Version::V3);
-        assert!(rt; certificate.as_raw() == bytes.as_slice());
-        assert!(rt; certificate.tbs_certificate.as_ref() == &bytes[2..98]);
-        assert!(rt;
-            matches!(certificate.extensions(), [e]
-                if e.oid.as_bytes() == b"\x55\x1D\x0E".as_slice() && !e.critical && e.value == &bytes[76..98])
-        );
+        expect_extended(certificate, &bytes, &rt);
     }
     Ok(())
 }
@@ -72,7 +86,7 @@ const SERIALS: [(&[u8], u32, &[u8]); 4] = [
 fn serials(rt: HostRuntime) -> Result<(), Fail> {
     for (bytes, serial, contents) in SERIALS {
         let bytes = replaced(rt.alloc(), PLAIN_BYTES, SERIAL, bytes)?;
-        let certificate = whole(rt.alloc(), parse_x509_certificate(rt.alloc(), bytes))?;
+        let certificate = certificate_in(rt.alloc(), bytes)?;
         assert!(rt; certificate.tbs_certificate.serial.is_u32(serial));
         assert!(rt; certificate.raw_serial() == contents);
     }
@@ -87,16 +101,34 @@ const TAILS: [&[u8]; 4] = [
     b"\x03\x01\x00\x05\x00\x05\x00\x05\x00\x05\x00\x05\x00\x05\x00\x05\x00\x05\x00\x05\x00\x05\x00\x05\x00\x05\x00\x05\x00",
 ];
 
+// That these are its octets, and those of the plain certificate's signed part its own.
+fn expect_skipped(certificate: &X509Certificate<'_>, bytes: &[u8], rt: &impl Abort) {
+    assert!(rt; certificate.as_raw() == bytes);
+    assert!(rt; certificate.tbs_certificate.as_ref().len() == 56);
+    assert!(rt; certificate.signature_value.bytes.is_empty());
+}
+
 #[test]
 fn bytes_behind_the_signature(rt: HostRuntime) -> Result<(), Fail> {
     for bits in TAILS {
         let bytes = replaced(rt.alloc(), PLAIN_BYTES, BITS, bits)?;
-        let read = whole(rt.alloc(), parse_x509_certificate(rt.alloc(), bytes))?;
-        assert!(rt; read.as_raw() == bytes);
-        assert!(rt; read.tbs_certificate.as_ref().len() == 56);
-        assert!(rt; read.signature_value.bytes.is_empty());
+        let certificate = certificate_in(rt.alloc(), bytes)?;
+        expect_skipped(certificate, bytes, &rt);
     }
     Ok(())
+}
+
+// That it has the extension twice, with the same value.
+fn expect_repeated(certificate: &X509Certificate<'_>, rt: &impl Abort) {
+    let one: &[u8] = EXTENDED_BYTES;
+    let value = &one[76..98];
+    let oid = Oid::new(OID_X509_EXT_SUBJECT_KEY_IDENTIFIER);
+    assert!(rt;
+        matches!(certificate.extensions(), [a, b] if a == b && a.oid == oid && a.value == value)
+    );
+    assert!(rt; certificate.find_extension(&oid).is_some());
+    let unique = certificate.get_extension_unique(&oid);
+    assert!(rt; matches!(unique, Err(X509Error::DuplicateExtensions)));
 }
 
 #[test]
@@ -105,14 +137,8 @@ fn repeated_extension(rt: HostRuntime) -> Result<(), Fail> {
     let (front, list): (&[u8], &[u8]) = (b"\x30\x81\x87\x30\x7D", b"\xA3\x40\x30\x3E");
     let parts = [front, &one[4..63], list, &one[67..98], &one[67..106]];
     let bytes = &*joined(rt.alloc(), &parts)?;
-    let certificate = whole(rt.alloc(), parse_x509_certificate(rt.alloc(), bytes))?;
-    let oid = Oid::new(OID_X509_EXT_SUBJECT_KEY_IDENTIFIER);
-    assert!(rt;
-        matches!(certificate.extensions(), [a, b] if a == b && a.oid == oid && a.value == &one[76..98])
-    );
-    assert!(rt; certificate.find_extension(&oid).is_some());
-    let unique = certificate.get_extension_unique(&oid);
-    assert!(rt; matches!(unique, Err(X509Error::DuplicateExtensions)));
+    let certificate = certificate_in(rt.alloc(), bytes)?;
+    expect_repeated(certificate, &rt);
     let strict = whole(rt.alloc(), parse_x509_certificate_strict(rt.alloc(), bytes))?;
     assert!(rt; strict == certificate);
     Ok(())

@@ -1,8 +1,9 @@
 //! Extensions and look-ups by identifier.
 
-use super::fixtures::{EXTENDED_BYTES, repeated, sequence, shows, whole};
+use super::fixtures::{EXTENDED_BYTES, certificate_in, repeated, sequence, shows, whole};
 use crate::prelude::*;
 use std::alloc::Global;
+use std::process::Abort;
 use std::test::Fail;
 use x509_der::{Oid, Tries};
 use x509_extensions::get_extension_unique;
@@ -98,6 +99,15 @@ fn issuing_distribution_point(rt: HostRuntime) -> Result<(), Fail> {
     Ok(())
 }
 
+// That there are no constraints and no usages, but the key's identifier.
+fn expect_identifier(certificate: &X509Certificate<'_>, rt: &impl Abort) {
+    assert!(rt; matches!(certificate.basic_constraints(), Ok(None)));
+    assert!(rt; matches!(certificate.key_usage(), Ok(None)));
+    let oid = Oid::new(OID_X509_EXT_SUBJECT_KEY_IDENTIFIER);
+    assert!(rt; matches!(certificate.get_extension_unique(&oid), Ok(Some(_))));
+    assert!(rt; !certificate.is_ca());
+}
+
 #[test]
 fn look_ups(rt: HostRuntime) -> Result<(), Fail> {
     let extensions = repeated(rt.alloc())?.extensions();
@@ -111,12 +121,6 @@ fn look_ups(rt: HostRuntime) -> Result<(), Fail> {
         let looked_up = get_extension_unique(extensions, &Oid::new(octets));
         assert!(rt; looked_up.map(|e| e.is_some()) == found);
     }
-    let read = parse_x509_certificate(rt.alloc(), EXTENDED_BYTES);
-    let certificate = whole(rt.alloc(), read)?;
-    assert!(rt; matches!(certificate.basic_constraints(), Ok(None)));
-    assert!(rt; matches!(certificate.key_usage(), Ok(None)));
-    let oid = Oid::new(OID_X509_EXT_SUBJECT_KEY_IDENTIFIER);
-    assert!(rt; matches!(certificate.get_extension_unique(&oid), Ok(Some(_))));
-    assert!(rt; !certificate.is_ca());
+    expect_identifier(certificate_in(rt.alloc(), EXTENDED_BYTES)?, &rt);
     Ok(())
 }

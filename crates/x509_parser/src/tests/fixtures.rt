@@ -91,6 +91,22 @@ pub fn whole<'e, T: Drop + 'e, E: Debug + Drop>(
     }
 }
 
+/// The certificate in these bytes. A test that reads it so holds a reference alone.
+pub fn certificate_in(
+    alloc: Global,
+    bytes: &'static [u8],
+) -> Result<&'static X509Certificate<'static>, Fail> {
+    whole(alloc, parse_x509_certificate(alloc, bytes))
+}
+
+/// The list in these bytes.
+pub fn list_in(
+    alloc: Global,
+    bytes: &'static [u8],
+) -> Result<&'static CertificateRevocationList<'static>, Fail> {
+    whole(alloc, parse_x509_crl(alloc, bytes))
+}
+
 /// Whether the value is shown so.
 pub fn shows<D: Display>(alloc: Global, value: &D, wanted: &str) -> Result<bool, Fail> {
     let shown = format!(in alloc; "{value}")?;
@@ -110,6 +126,8 @@ const REPEATED: &[u8] =
 
 /// A certificate with the extensions 1.2, 1.3, 1.2, 1.4 and 1.4.
 pub fn repeated(alloc: Global) -> Result<&'static X509Certificate<'static>, Fail> {
-    let bytes = replaced(alloc, EXTENDED_BYTES, EXTENSIONS, REPEATED)?;
-    whole(alloc, parse_x509_certificate(alloc, bytes))
+    certificate_in(
+        alloc,
+        replaced(alloc, EXTENDED_BYTES, EXTENSIONS, REPEATED)?,
+    )
 }

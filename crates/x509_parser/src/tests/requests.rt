@@ -2,12 +2,23 @@
 
 use super::fixtures::{EXTENDED_BYTES, PLAIN_BYTES, joined, sequence, whole};
 use crate::prelude::*;
+use std::process::Abort;
 use std::test::Fail;
 use x509_der::{Err, Oid};
 
 /// A request without attributes: 29 bytes.
 pub const PLAIN_REQUEST: &[u8; 29] =
     b"\x30\x1B\x30\x11\x02\x01\x00\x30\x00\x30\x08\x30\x03\x06\x01\x2A\x03\x01\x00\xA0\x00\x30\x03\x06\x01\x2A\x03\x01\x00";
+
+// That this is the plain request.
+fn expect_plain(request: &X509CertificationRequest<'_>, rt: &impl Abort) {
+    let bytes: &[u8] = PLAIN_REQUEST;
+    assert!(rt; request.as_raw() == bytes);
+    let info = &request.certification_request_info;
+    assert!(rt; info.version == X509Version::V1);
+    assert!(rt; info.raw == &bytes[2..21]);
+    assert!(rt; info.attributes().is_empty());
+}
 
 #[test]
 fn no_attributes(rt: HostRuntime) -> Result<(), Fail> {
@@ -16,13 +27,18 @@ fn no_attributes(rt: HostRuntime) -> Result<(), Fail> {
     let loose = whole(rt.alloc(), read)?;
     let strict = whole(rt.alloc(), parse_x509_csr_strict(rt.alloc(), bytes))?;
     for request in [loose, strict] {
-        assert!(rt; request.as_raw() == bytes);
-        let info = &request.certification_request_info;
-        assert!(rt; info.version == X509Version::V1);
-        assert!(rt; info.raw == &bytes[2..21]);
-        assert!(rt; info.attributes().is_empty());
+        expect_plain(request, &rt);
     }
     Ok(())
+}
+
+// That it has a password, and asks for no extensions.
+fn expect_password(request: &X509CertificationRequest<'_>, rt: &impl Abort) {
+    let info = &request.certification_request_info;
+    assert!(rt; info.raw.len() == 37);
+    let attribute = info.find_attribute(&Oid::new(OID_PKCS9_CHALLENGE_PASSWORD));
+    assert!(rt; matches!(attribute, Some(a) if a.value == b"\x31\x03\x0C\x01a".as_slice()));
+    assert!(rt; request.requested_extensions().is_none());
 }
 
 /// The same with a password, whose wrapper's length is right, and then another one.
@@ -35,11 +51,7 @@ fn a_password(rt: HostRuntime) -> Result<(), Fail> {
         bytes[20] = length;
         let read = X509CertificationRequest::from_der(rt.alloc(), &bytes);
         let request = whole(rt.alloc(), read)?;
-        let info = &request.certification_request_info;
-        assert!(rt; info.raw.len() == 37);
-        let attribute = info.find_attribute(&Oid::new(OID_PKCS9_CHALLENGE_PASSWORD));
-        assert!(rt; matches!(attribute, Some(a) if a.value == b"\x31\x03\x0C\x01a".as_slice()));
-        assert!(rt; request.requested_extensions().is_none());
+        expect_password(request, &rt);
         let strict = parse_x509_csr_strict(rt.alloc(), &bytes);
         assert!(rt; strict.err() == refusal);
     }

@@ -1,6 +1,6 @@
 //! Validators, loggers and walks over certificates and lists.
 
-use super::fixtures::{self, EXTENDED_BYTES, PLAIN_BYTES, whole};
+use super::fixtures::{self, EXTENDED_BYTES, PLAIN_BYTES, certificate_in, list_in};
 use super::lists::PLAIN_LIST;
 use crate::prelude::*;
 use crate::visitor::{CertificateRevocationListVisitor, X509CertificateVisitor};
@@ -43,7 +43,7 @@ fn says(report: Report, sound: bool, warnings: &[&str], errors: &[&str]) -> bool
 fn certificates(rt: HostRuntime) -> Result<(), Fail> {
     let warnings = ["Unknown public key type"];
     for (bytes, errors) in CERTIFICATES {
-        let certificate = whole(rt.alloc(), parse_x509_certificate(rt.alloc(), bytes))?;
+        let certificate = certificate_in(rt.alloc(), bytes)?;
         let report = certificate.validate_to_vec(rt.alloc())?;
         let told = says(report, errors.is_empty(), &warnings, errors);
         assert!(rt; told, "at {errors:?}");
@@ -202,7 +202,7 @@ impl X509CertificateVisitor for Keys {
 #[test]
 fn walked_certificates(rt: HostRuntime) -> Result<(), Fail> {
     let bytes: &[u8] = EXTENDED_BYTES;
-    let certificate = whole(rt.alloc(), parse_x509_certificate(rt.alloc(), bytes))?;
+    let certificate = certificate_in(rt.alloc(), bytes)?;
     let mut keys = Keys::default();
     keys.walk(certificate)?;
     assert!(rt; (keys.issuers, keys.extensions) == (1, 1));
@@ -234,9 +234,8 @@ impl CertificateRevocationListVisitor for Dates {
 
 #[test]
 fn walked_lists(rt: HostRuntime) -> Result<(), Fail> {
-    let list = whole(rt.alloc(), parse_x509_crl(rt.alloc(), PLAIN_LIST))?;
     let mut dates = Dates(0);
-    dates.walk(list)?;
+    dates.walk(list_in(rt.alloc(), PLAIN_LIST)?)?;
     assert!(rt; dates.0 == 1);
     Ok(())
 }

@@ -4,7 +4,7 @@ use crate::calls::recorder::{Recorder, RecorderByValue, Walk, WalkByValue, numbe
 use x509_certs::{TbsCertificate, X509Certificate, X509CertificateParser};
 use x509_der::Reader;
 use x509_fields::X509Error;
-use x509_probe_answers::{Answer, Look, look_at, look_in};
+use x509_probe_answers::{Answer, Tells, look_at, look_in};
 use x509_visitors::{CertificateVisit, CertificateVisits, WalkCertificate, X509CertificateVisitor};
 
 impl CertificateVisits for RecorderByValue {
@@ -17,26 +17,26 @@ impl CertificateVisits for RecorderByValue {
     }
 }
 
-impl Look<X509Certificate<'_>> for Walk {
-    fn look(&self, certificate: &X509Certificate<'_>, out: &mut Answer) {
-        let mut visitor = Recorder::new(out.alloc(), self.0);
-        let outcome = visitor.walk(certificate);
+impl Tells<Walk> for X509Certificate<'_> {
+    fn tell(&self, asked: &Walk, out: &mut Answer) {
+        let mut visitor = Recorder::new(out.alloc(), asked.0);
+        let outcome = visitor.walk(self);
         put_end(out, outcome, visitor.log());
     }
 }
 
-impl Look<X509Certificate<'_>> for WalkByValue {
-    fn look(&self, certificate: &X509Certificate<'_>, out: &mut Answer) {
-        let mut visitor = RecorderByValue(Recorder::new(out.alloc(), self.0));
-        let outcome = certificate.walk(&mut visitor);
+impl Tells<WalkByValue> for X509Certificate<'_> {
+    fn tell(&self, asked: &WalkByValue, out: &mut Answer) {
+        let mut visitor = RecorderByValue(Recorder::new(out.alloc(), asked.0));
+        let outcome = self.walk(&mut visitor);
         put_end(out, outcome, visitor.0.log());
     }
 }
 
-impl Look<TbsCertificate<'_>> for Walk {
-    fn look(&self, tbs: &TbsCertificate<'_>, out: &mut Answer) {
-        let mut visitor = Recorder::new(out.alloc(), self.0);
-        let outcome = tbs.walk(&mut visitor);
+impl Tells<Walk> for TbsCertificate<'_> {
+    fn tell(&self, asked: &Walk, out: &mut Answer) {
+        let mut visitor = Recorder::new(out.alloc(), asked.0);
+        let outcome = self.walk(&mut visitor);
         put_end(out, outcome, visitor.log());
     }
 }

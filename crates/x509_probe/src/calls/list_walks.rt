@@ -3,7 +3,7 @@
 use crate::calls::recorder::{Recorder, RecorderByValue, Walk, WalkByValue, number, put_end};
 use x509_fields::X509Error;
 use x509_lists::{CertificateRevocationList, TbsCertList};
-use x509_probe_answers::{Answer, Look, look_in};
+use x509_probe_answers::{Answer, Tells, look_in};
 use x509_visitors::{CertificateRevocationListVisitor, ListVisit, ListVisits, WalkRevocationList};
 
 impl ListVisits for RecorderByValue {
@@ -16,26 +16,26 @@ impl ListVisits for RecorderByValue {
     }
 }
 
-impl Look<CertificateRevocationList<'_>> for Walk {
-    fn look(&self, list: &CertificateRevocationList<'_>, out: &mut Answer) {
-        let mut visitor = Recorder::new(out.alloc(), self.0);
-        let outcome = visitor.walk(list);
+impl Tells<Walk> for CertificateRevocationList<'_> {
+    fn tell(&self, asked: &Walk, out: &mut Answer) {
+        let mut visitor = Recorder::new(out.alloc(), asked.0);
+        let outcome = visitor.walk(self);
         put_end(out, outcome, visitor.log());
     }
 }
 
-impl Look<CertificateRevocationList<'_>> for WalkByValue {
-    fn look(&self, list: &CertificateRevocationList<'_>, out: &mut Answer) {
-        let mut visitor = RecorderByValue(Recorder::new(out.alloc(), self.0));
-        let outcome = list.walk(&mut visitor);
+impl Tells<WalkByValue> for CertificateRevocationList<'_> {
+    fn tell(&self, asked: &WalkByValue, out: &mut Answer) {
+        let mut visitor = RecorderByValue(Recorder::new(out.alloc(), asked.0));
+        let outcome = self.walk(&mut visitor);
         put_end(out, outcome, visitor.0.log());
     }
 }
 
-impl Look<TbsCertList<'_>> for Walk {
-    fn look(&self, tbs: &TbsCertList<'_>, out: &mut Answer) {
-        let mut visitor = Recorder::new(out.alloc(), self.0);
-        let outcome = tbs.walk(&mut visitor);
+impl Tells<Walk> for TbsCertList<'_> {
+    fn tell(&self, asked: &Walk, out: &mut Answer) {
+        let mut visitor = Recorder::new(out.alloc(), asked.0);
+        let outcome = self.walk(&mut visitor);
         put_end(out, outcome, visitor.log());
     }
 }

@@ -4,7 +4,7 @@ use std::alloc::{AllocError, Global};
 use x509_der::{FromDer, Oid};
 use x509_fields::{ASN1Time, OffsetDateTime, X509Error};
 use x509_names::{RelativeDistinguishedName, X509Name};
-use x509_probe_answers::{Answer, Look, Show, both, look_in, put_result};
+use x509_probe_answers::{Answer, Show, Tells, both, look_in, put_result};
 
 // A time made again in four ways.
 fn put_four(time: &ASN1Time, out: &mut Answer) {
@@ -45,10 +45,10 @@ fn put_offset(a: &[u8], b: &[u8], out: &mut Answer) {
 #[derive(Clone, Copy)]
 struct OfType<'o>(Oid<'o>);
 
-impl Look<X509Name<'_>> for OfType<'_> {
-    fn look(&self, name: &X509Name<'_>, out: &mut Answer) {
+impl Tells<OfType<'_>> for X509Name<'_> {
+    fn tell(&self, asked: &OfType<'_>, out: &mut Answer) {
         out.add("by");
-        for attribute in name.iter_by_oid(&self.0) {
+        for attribute in self.iter_by_oid(&asked.0) {
             out.add(",");
             attribute.show(out);
         }

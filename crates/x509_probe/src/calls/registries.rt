@@ -6,7 +6,7 @@ use x509_names::{
     OidEntry, OidRegistry, X509Name, oid_registry, oid2abbrev, oid2description, oid2sn,
     registry_full,
 };
-use x509_probe_answers::{Answer, Look, look_in};
+use x509_probe_answers::{Answer, Tells, look_in};
 
 // A name of an identifier, or that there is none.
 fn put_word(out: &mut Answer, word: Result<&str, NidError>) {
@@ -108,9 +108,9 @@ fn put_name<'o>(name: &X509Name<'_>, oid: Oid<'o>, out: &mut Answer) {
 #[derive(Clone, Copy)]
 struct Registries<'o>(Oid<'o>);
 
-impl Look<X509Name<'_>> for Registries<'_> {
-    fn look(&self, name: &X509Name<'_>, out: &mut Answer) {
-        put_name(name, self.0, out);
+impl Tells<Registries<'_>> for X509Name<'_> {
+    fn tell(&self, asked: &Registries<'_>, out: &mut Answer) {
+        put_name(self, asked.0, out);
     }
 }
 

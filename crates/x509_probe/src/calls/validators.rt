@@ -10,7 +10,7 @@ use x509_extensions::X509Extension;
 use x509_fields::{ASN1Time, X509Error};
 use x509_keys::SubjectPublicKeyInfo;
 use x509_names::X509Name;
-use x509_probe_answers::{Answer, Look, look_at, look_in, put_result};
+use x509_probe_answers::{Answer, Tells, look_at, look_in, put_result};
 use x509_requests::ExtensionRequest;
 use x509_validators::{
     StderrLogger, TbsCertificateStructureValidator, Validate, Validator, X509CertificateValidator,
@@ -244,21 +244,21 @@ fn in_other_forms<'a>(
 #[derive(Clone, Copy)]
 struct Structure(u32);
 
-impl Look<X509Name<'_>> for Structure {
-    fn look(&self, name: &X509Name<'_>, out: &mut Answer) {
-        run(out, &X509NameStructureValidator, name, self.0);
+impl Tells<Structure> for X509Name<'_> {
+    fn tell(&self, asked: &Structure, out: &mut Answer) {
+        run(out, &X509NameStructureValidator, self, asked.0);
     }
 }
 
-impl Look<SubjectPublicKeyInfo<'_>> for Structure {
-    fn look(&self, info: &SubjectPublicKeyInfo<'_>, out: &mut Answer) {
-        run(out, &X509PublicKeyValidator, info, self.0);
+impl Tells<Structure> for SubjectPublicKeyInfo<'_> {
+    fn tell(&self, asked: &Structure, out: &mut Answer) {
+        run(out, &X509PublicKeyValidator, self, asked.0);
     }
 }
 
-impl Look<TbsCertificate<'_>> for Structure {
-    fn look(&self, tbs: &TbsCertificate<'_>, out: &mut Answer) {
-        run(out, &TbsCertificateStructureValidator, tbs, self.0);
+impl Tells<Structure> for TbsCertificate<'_> {
+    fn tell(&self, asked: &Structure, out: &mut Answer) {
+        run(out, &TbsCertificateStructureValidator, self, asked.0);
     }
 }
 
@@ -266,10 +266,10 @@ impl Look<TbsCertificate<'_>> for Structure {
 #[derive(Clone, Copy)]
 struct Signed(u32);
 
-impl Look<TbsCertificate<'_>> for Signed {
-    fn look(&self, tbs: &TbsCertificate<'_>, out: &mut Answer) {
-        run(out, &TbsCertificateStructureValidator, tbs, self.0);
-        by_closures(out, tbs);
+impl Tells<Signed> for TbsCertificate<'_> {
+    fn tell(&self, asked: &Signed, out: &mut Answer) {
+        run(out, &TbsCertificateStructureValidator, self, asked.0);
+        by_closures(out, self);
     }
 }
 
@@ -297,15 +297,15 @@ struct Asked<'w> {
     refused: u32,
 }
 
-impl Look<X509Certificate<'_>> for Asked<'_> {
-    fn look(&self, certificate: &X509Certificate<'_>, out: &mut Answer) {
-        match self.word {
-            "check_certificate" => put_certificate(certificate, self.refused, out),
-            "check_chain" => put_chained(certificate, self.refused, out),
-            "check_closures" => put_stopped(certificate, self.refused, out),
-            "check_closed_errors" => put_closures(out, certificate, 0, self.refused),
-            "check_untaken_lines" => put_untaken(certificate, out),
-            _ => put_lines(certificate, self.refused, out),
+impl Tells<Asked<'_>> for X509Certificate<'_> {
+    fn tell(&self, asked: &Asked<'_>, out: &mut Answer) {
+        match asked.word {
+            "check_certificate" => put_certificate(self, asked.refused, out),
+            "check_chain" => put_chained(self, asked.refused, out),
+            "check_closures" => put_stopped(self, asked.refused, out),
+            "check_closed_errors" => put_closures(out, self, 0, asked.refused),
+            "check_untaken_lines" => put_untaken(self, out),
+            _ => put_lines(self, asked.refused, out),
         }
     }
 }

@@ -1,7 +1,7 @@
 //! Numbers, identifiers and serials as texts, and certificates by calls of the facade.
 
 use crate::objects::columns::put_read;
-use crate::show::{Answer, Look, Show, look_at};
+use crate::show::{Answer, Show, Tells, look_at};
 use x509_certs::{X509Certificate, parse_x509_certificate, parse_x509_der};
 use x509_der::{Oid, UnsignedBytes};
 use x509_fields::{X509Version, format_serial};
@@ -49,33 +49,28 @@ fn put_parsed(a: &[u8], out: &mut Answer) {
     put_read(out, parse_x509_der(alloc, a));
 }
 
-// The fields of a certificate by calls of its own.
-fn put_calls(value: &X509Certificate<'_>, out: &mut Answer) {
-    value.version().show(out);
-    out.add(";");
-    out.hex(value.raw_serial());
-    out.add(";");
-    out.made_hex(value.raw_serial_as_string(out.alloc()));
-    out.add(";");
-    out.hex(value.issuer().as_raw());
-    out.add(";");
-    out.hex(value.subject().as_raw());
-    out.add(";");
-    value.validity().show(out);
-    out.add(";");
-    out.hex(value.public_key().raw);
-    out.add(";");
-    out.display(&value.extensions().len());
-    out.add(";");
-    out.hex(value.as_ref());
-}
-
-/// The fields of a certificate.
+/// The fields of a certificate by calls of its own.
 struct Fields;
 
-impl Look<X509Certificate<'_>> for Fields {
-    fn look(&self, value: &X509Certificate<'_>, out: &mut Answer) {
-        put_calls(value, out);
+impl Tells<Fields> for X509Certificate<'_> {
+    fn tell(&self, _asked: &Fields, out: &mut Answer) {
+        self.version().show(out);
+        out.add(";");
+        out.hex(self.raw_serial());
+        out.add(";");
+        out.made_hex(self.raw_serial_as_string(out.alloc()));
+        out.add(";");
+        out.hex(self.issuer().as_raw());
+        out.add(";");
+        out.hex(self.subject().as_raw());
+        out.add(";");
+        self.validity().show(out);
+        out.add(";");
+        out.hex(self.public_key().raw);
+        out.add(";");
+        out.display(&self.extensions().len());
+        out.add(";");
+        out.hex(self.as_ref());
     }
 }
 

@@ -1,6 +1,6 @@
 //! What values say in words for keys and columns, and their texts for other programs.
 
-use crate::show::{Answer, Look, Show, look_at, look_in};
+use crate::show::{Answer, Show, Tells, look_at, look_in};
 use std::alloc::AllocError;
 use std::io;
 use x509_certs::{X509Certificate, parse_x509_certificate_marked};
@@ -25,11 +25,11 @@ fn put_text(out: &mut Answer, text: Result<String, AllocError>) {
 /// The text of a name that never fails, and those of its values.
 struct Lossy;
 
-impl Look<X509Name<'_>> for Lossy {
-    fn look(&self, name: &X509Name<'_>, out: &mut Answer) {
+impl Tells<Lossy> for X509Name<'_> {
+    fn tell(&self, _asked: &Lossy, out: &mut Answer) {
         let alloc = out.alloc();
-        put_text(out, name.to_text_lossy(alloc));
-        for relative in name.relative_names() {
+        put_text(out, self.to_text_lossy(alloc));
+        for relative in self.relative_names() {
             out.add(";");
             for attribute in relative.attributes() {
                 out.add(",");
@@ -84,9 +84,9 @@ fn put_signed(a: &[u8], out: &mut Answer) {
 /// What the value of an extension is.
 struct Kind;
 
-impl Look<X509Extension<'_>> for Kind {
-    fn look(&self, extension: &X509Extension<'_>, out: &mut Answer) {
-        out.add(extension.parsed_extension().kind());
+impl Tells<Kind> for X509Extension<'_> {
+    fn tell(&self, _asked: &Kind, out: &mut Answer) {
+        out.add(self.parsed_extension().kind());
     }
 }
 
@@ -100,9 +100,9 @@ fn put_shallow_kind(a: &[u8], out: &mut Answer) {
 /// The address of a general name, as a text.
 struct Address;
 
-impl Look<GeneralName<'_>> for Address {
-    fn look(&self, name: &GeneralName<'_>, out: &mut Answer) {
-        match name.ip() {
+impl Tells<Address> for GeneralName<'_> {
+    fn tell(&self, _asked: &Address, out: &mut Answer) {
+        match self.ip() {
             Some(address) => out.display(&address),
             None => out.add("-"),
         }
@@ -135,16 +135,16 @@ fn put_registered(out: &mut Answer, a: &[u8]) {
 /// The other purposes of a usage: how many, the last, and all in order.
 struct Members;
 
-impl Look<ExtendedKeyUsage<'_>> for Members {
-    fn look(&self, usage: &ExtendedKeyUsage<'_>, out: &mut Answer) {
-        let count = usage.other.len();
+impl Tells<Members> for ExtendedKeyUsage<'_> {
+    fn tell(&self, _asked: &Members, out: &mut Answer) {
+        let count = self.other.len();
         out.display(&count);
         out.add(" ");
-        match usage.other.get(count.wrapping_sub(1)) {
+        match self.other.get(count.wrapping_sub(1)) {
             Some(last) => out.hex(last.as_bytes()),
             None => out.add("-"),
         }
-        for oid in &usage.other {
+        for oid in &self.other {
             out.add(",");
             out.hex(oid.as_bytes());
         }

@@ -1,6 +1,6 @@
 //! Look-ups.
 
-use crate::show::{Answer, Hasher, Look, Show, look_at, look_in, put_result};
+use crate::show::{Answer, Hasher, Show, Tells, look_at, look_in, put_result};
 use std::collections::HashMap;
 use x509_certs::{BasicExtension, TbsCertificate, X509Certificate, X509CertificateParser};
 use x509_der::{FromDer, Oid, Reader, UnsignedBytes};
@@ -61,7 +61,7 @@ struct LookUps<'o>(Oid<'o>);
 
 // What a certificate has by an identifier, or its signed part, which has the same.
 macro_rules! put_by_identifier {
-    ($out:ident, $value:ident, $oid:ident) => {
+    ($value:ident, $oid:expr, $out:ident) => {
         $out.add("find ");
         $value.find_extension($oid).show($out);
         $out.add("|unique ");
@@ -74,7 +74,7 @@ macro_rules! put_by_identifier {
 
 // What it says by calls of their own.
 macro_rules! put_all_typed {
-    ($out:ident, $value:ident) => {
+    ($value:ident, $out:ident) => {
         put_typed($out, "|basic_constraints ", $value.basic_constraints());
         put_typed($out, "|key_usage ", $value.key_usage());
         put_typed($out, "|extended_key_usage ", $value.extended_key_usage());
@@ -88,34 +88,25 @@ macro_rules! put_all_typed {
     };
 }
 
-// What is read stands first in these, before what it is looked up by (docs/WORKING.md, "What a proof costs").
-fn find_in_certificate(value: &X509Certificate<'_>, oid: &Oid<'_>, out: &mut Answer) {
-    put_by_identifier!(out, value, oid);
-}
-
 fn put_certificate(value: &X509Certificate<'_>, out: &mut Answer) {
-    put_all_typed!(out, value);
+    put_all_typed!(value, out);
 }
 
-impl Look<X509Certificate<'_>> for LookUps<'_> {
-    fn look(&self, value: &X509Certificate<'_>, out: &mut Answer) {
-        find_in_certificate(value, &self.0, out);
-        put_certificate(value, out);
+impl Tells<LookUps<'_>> for X509Certificate<'_> {
+    fn tell(&self, asked: &LookUps<'_>, out: &mut Answer) {
+        put_by_identifier!(self, &asked.0, out);
+        put_certificate(self, out);
     }
 }
 
-fn find_in_tbs(value: &TbsCertificate<'_>, oid: &Oid<'_>, out: &mut Answer) {
-    put_by_identifier!(out, value, oid);
-}
-
 fn put_tbs(value: &TbsCertificate<'_>, out: &mut Answer) {
-    put_all_typed!(out, value);
+    put_all_typed!(value, out);
 }
 
-impl Look<TbsCertificate<'_>> for LookUps<'_> {
-    fn look(&self, value: &TbsCertificate<'_>, out: &mut Answer) {
-        find_in_tbs(value, &self.0, out);
-        put_tbs(value, out);
+impl Tells<LookUps<'_>> for TbsCertificate<'_> {
+    fn tell(&self, asked: &LookUps<'_>, out: &mut Answer) {
+        put_by_identifier!(self, &asked.0, out);
+        put_tbs(self, out);
     }
 }
 
@@ -128,54 +119,50 @@ fn put_entry(entry: &RevokedCertificate<'_>, oid: &Oid<'_>, out: &mut Answer) {
     put_map(out, entry.extensions(), map);
 }
 
-// The look-ups of a list.
-fn find_in_list(list: &TbsCertList<'_>, oid: &Oid<'_>, out: &mut Answer) {
-    out.add("find ");
-    list.find_extension(oid).show(out);
-    out.add("|map ");
-    let map = list.extensions_map(out.alloc(), Hasher::new());
-    put_map(out, list.extensions(), map);
-}
-
-impl Look<CertificateRevocationList<'_>> for LookUps<'_> {
-    fn look(&self, value: &CertificateRevocationList<'_>, out: &mut Answer) {
-        let list = &value.tbs_cert_list;
-        find_in_list(list, &self.0, out);
-        for entry in list.revoked_certificates.as_slice() {
-            put_entry(entry, &self.0, out);
-        }
-    }
-}
-
-// The look-ups of a request.
-fn find_in_request(info: &X509CertificationRequestInfo<'_>, oid: &Oid<'_>, out: &mut Answer) {
-    out.add("find ");
-    info.find_attribute(oid).show(out);
-    out.add("|map ");
-    match info.attributes_map(out.alloc(), Hasher::new()) {
-        Ok(map) => {
-            out.display(&map.len());
-            for attribute in info.attributes() {
-                map.get(&attribute.oid).copied().show(out);
-            }
-        }
-        Err(kind) => out.error(&kind),
-    }
-}
-
-impl Look<X509CertificationRequestInfo<'_>> for LookUps<'_> {
-    fn look(&self, info: &X509CertificationRequestInfo<'_>, out: &mut Answer) {
-        find_in_request(info, &self.0, out);
-    }
-}
-
-impl Look<ExtensionRequest<'_>> for LookUps<'_> {
-    fn look(&self, request: &ExtensionRequest<'_>, out: &mut Answer) {
-        let extensions = request.extensions.as_slice();
+impl Tells<LookUps<'_>> for TbsCertList<'_> {
+    fn tell(&self, asked: &LookUps<'_>, out: &mut Answer) {
         out.add("find ");
-        find_extension(extensions, &self.0).show(out);
+        self.find_extension(&asked.0).show(out);
+        out.add("|map ");
+        let map = self.extensions_map(out.alloc(), Hasher::new());
+        put_map(out, self.extensions(), map);
+    }
+}
+
+impl Tells<LookUps<'_>> for CertificateRevocationList<'_> {
+    fn tell(&self, asked: &LookUps<'_>, out: &mut Answer) {
+        let list = &self.tbs_cert_list;
+        list.tell(asked, out);
+        for entry in list.revoked_certificates.as_slice() {
+            put_entry(entry, &asked.0, out);
+        }
+    }
+}
+
+impl Tells<LookUps<'_>> for X509CertificationRequestInfo<'_> {
+    fn tell(&self, asked: &LookUps<'_>, out: &mut Answer) {
+        out.add("find ");
+        self.find_attribute(&asked.0).show(out);
+        out.add("|map ");
+        match self.attributes_map(out.alloc(), Hasher::new()) {
+            Ok(map) => {
+                out.display(&map.len());
+                for attribute in self.attributes() {
+                    map.get(&attribute.oid).copied().show(out);
+                }
+            }
+            Err(kind) => out.error(&kind),
+        }
+    }
+}
+
+impl Tells<LookUps<'_>> for ExtensionRequest<'_> {
+    fn tell(&self, asked: &LookUps<'_>, out: &mut Answer) {
+        let extensions = self.extensions.as_slice();
+        out.add("find ");
+        find_extension(extensions, &asked.0).show(out);
         out.add("|unique ");
-        put_result(out, get_extension_unique(extensions, &self.0));
+        put_result(out, get_extension_unique(extensions, &asked.0));
         out.add("|map ");
         let map = extensions_map(out.alloc(), extensions, Hasher::new());
         put_map(out, extensions, map);
@@ -194,14 +181,14 @@ fn put_position(out: &mut Answer, position: Option<usize>) {
 #[derive(Clone, Copy)]
 struct Serial<'s>(UnsignedBytes<'s>);
 
-impl Look<TbsCertList<'_>> for Serial<'_> {
-    fn look(&self, list: &TbsCertList<'_>, out: &mut Answer) {
-        put_position(out, list.find_revoked(&self.0));
+impl Tells<Serial<'_>> for TbsCertList<'_> {
+    fn tell(&self, asked: &Serial<'_>, out: &mut Answer) {
+        put_position(out, self.find_revoked(&asked.0));
         out.add(" ");
-        match RevocationIndex::build(list) {
+        match RevocationIndex::build(self) {
             Ok(index) => {
-                put_position(out, index.find(&self.0));
-                let (position, compared) = index.find_counted(&self.0);
+                put_position(out, index.find(&asked.0));
+                let (position, compared) = index.find_counted(&asked.0);
                 out.add(" ");
                 put_position(out, position);
                 out.add(" ");
@@ -230,14 +217,14 @@ fn put_found(out: &mut Answer, found: Result<Option<(usize, RevokedCertificate<'
 }
 
 /// The same in octets, and the entry.
-impl Look<TbsCertListEntries<'_>> for Serial<'_> {
-    fn look(&self, list: &TbsCertListEntries<'_>, out: &mut Answer) {
-        put_position(out, list.find_revoked(&self.0));
+impl Tells<Serial<'_>> for TbsCertListEntries<'_> {
+    fn tell(&self, asked: &Serial<'_>, out: &mut Answer) {
+        put_position(out, self.find_revoked(&asked.0));
         out.add(" ");
-        let entries = &list.revoked_certificates;
-        put_position(out, entries.position(&self.0));
+        let entries = &self.revoked_certificates;
+        put_position(out, entries.position(&asked.0));
         out.add(" ");
-        put_found(out, entries.find(out.alloc(), &self.0));
+        put_found(out, entries.find(out.alloc(), &asked.0));
     }
 }
 
@@ -266,14 +253,14 @@ fn put_index(out: &mut Answer, index: &EntriesIndex<'_>) {
 #[derive(Clone, Copy)]
 struct Indexed<'s>(UnsignedBytes<'s>);
 
-impl Look<TbsCertListEntries<'_>> for Indexed<'_> {
-    fn look(&self, list: &TbsCertListEntries<'_>, out: &mut Answer) {
-        let entries = &list.revoked_certificates;
-        put_position(out, entries.position(&self.0));
+impl Tells<Indexed<'_>> for TbsCertListEntries<'_> {
+    fn tell(&self, asked: &Indexed<'_>, out: &mut Answer) {
+        let entries = &self.revoked_certificates;
+        put_position(out, entries.position(&asked.0));
         out.add(" ");
         match EntriesIndex::build(out.alloc(), entries) {
             Ok(index) => {
-                let (offset, compared) = index.find_counted(&self.0);
+                let (offset, compared) = index.find_counted(&asked.0);
                 put_position(out, offset);
                 out.add(" ");
                 out.display(&index.len());
@@ -282,7 +269,7 @@ impl Look<TbsCertListEntries<'_>> for Indexed<'_> {
                 out.add(" ");
                 out.display(&compared);
                 out.add(" ");
-                match index.find(out.alloc(), &self.0) {
+                match index.find(out.alloc(), &asked.0) {
                     Ok(Some(entry)) => entry.show(out),
                     Ok(None) => out.add("-"),
                     Err(kind) => out.error(&kind),
@@ -299,9 +286,9 @@ impl Look<TbsCertListEntries<'_>> for Indexed<'_> {
 #[derive(Clone, Copy)]
 struct IndexFile<'f>(&'f [u8]);
 
-impl Look<TbsCertListEntries<'_>> for IndexFile<'_> {
-    fn look(&self, list: &TbsCertListEntries<'_>, out: &mut Answer) {
-        match EntriesIndex::from_bytes(out.alloc(), &list.revoked_certificates, self.0) {
+impl Tells<IndexFile<'_>> for TbsCertListEntries<'_> {
+    fn tell(&self, asked: &IndexFile<'_>, out: &mut Answer) {
+        match EntriesIndex::from_bytes(out.alloc(), &self.revoked_certificates, asked.0) {
             Ok(index) => put_index(out, &index),
             Err(why) => put_index_error(out, why),
         }
@@ -315,16 +302,19 @@ struct IssuedBy<'n, 's> {
     serial: UnsignedBytes<'s>,
 }
 
-impl Look<TbsCertListEntries<'_>> for IssuedBy<'_, '_> {
-    fn look(&self, list: &TbsCertListEntries<'_>, out: &mut Answer) {
-        put_found(out, list.find_for(out.alloc(), &self.issuer, &self.serial));
+impl Tells<IssuedBy<'_, '_>> for TbsCertListEntries<'_> {
+    fn tell(&self, asked: &IssuedBy<'_, '_>, out: &mut Answer) {
+        put_found(
+            out,
+            self.find_for(out.alloc(), &asked.issuer, &asked.serial),
+        );
     }
 }
 
 /// The same on a list that is kept, by its position.
-impl Look<TbsCertList<'_>> for IssuedBy<'_, '_> {
-    fn look(&self, list: &TbsCertList<'_>, out: &mut Answer) {
-        match list.find_for(&self.issuer, &self.serial) {
+impl Tells<IssuedBy<'_, '_>> for TbsCertList<'_> {
+    fn tell(&self, asked: &IssuedBy<'_, '_>, out: &mut Answer) {
+        match self.find_for(&asked.issuer, &asked.serial) {
             Ok(position) => put_position(out, position),
             Err(kind) => out.error(&kind),
         }
@@ -346,22 +336,15 @@ fn issued(out: &mut Answer, a: &[u8], b: &[u8]) {
 }
 
 // A certificate without what the values of its extensions say.
-fn shallow(out: &mut Answer, a: &[u8], look: &LookUps<'_>) {
+fn shallow(out: &mut Answer, a: &[u8], asked: &LookUps<'_>) {
     let parser = X509CertificateParser::new().with_deep_parse_extensions(false);
     let read = parser.parse(out.alloc(), a);
-    look_at(out, look, read);
+    look_at(out, asked, read);
 }
 
-/// Adds the answer of a look-up; false where the word names none.
-pub fn answer(word: &str, a: &[u8], b: &[u8], out: &mut Answer) -> bool {
-    let look = LookUps(Oid::new(b));
+// The words of entries of lists, by their serials.
+fn entries(word: &str, a: &[u8], b: &[u8], out: &mut Answer) -> bool {
     match word {
-        "look_certificate" => look_in::<X509Certificate, _>(out, &look, a),
-        "look_certificate_shallow" => shallow(out, a, &look),
-        "look_tbs" => look_in::<TbsCertificate, _>(out, &look, a),
-        "look_list" => look_in::<CertificateRevocationList, _>(out, &look, a),
-        "look_request" => look_in::<X509CertificationRequestInfo, _>(out, &look, a),
-        "look_extensions" => look_in::<ExtensionRequest, _>(out, &look, a),
         "find_revoked" => {
             look_in::<TbsCertList, _>(out, &Serial(UnsignedBytes::new(b)), a);
         }
@@ -374,6 +357,21 @@ pub fn answer(word: &str, a: &[u8], b: &[u8], out: &mut Answer) -> bool {
         }
         "index_from_bytes" => look_in::<TbsCertListEntries, _>(out, &IndexFile(b), a),
         _ => return false,
+    }
+    true
+}
+
+/// Adds the answer of a look-up; false where the word names none.
+pub fn answer(word: &str, a: &[u8], b: &[u8], out: &mut Answer) -> bool {
+    let asked = LookUps(Oid::new(b));
+    match word {
+        "look_certificate" => look_in::<X509Certificate, _>(out, &asked, a),
+        "look_certificate_shallow" => shallow(out, a, &asked),
+        "look_tbs" => look_in::<TbsCertificate, _>(out, &asked, a),
+        "look_list" => look_in::<CertificateRevocationList, _>(out, &asked, a),
+        "look_request" => look_in::<X509CertificationRequestInfo, _>(out, &asked, a),
+        "look_extensions" => look_in::<ExtensionRequest, _>(out, &asked, a),
+        _ => return entries(word, a, b, out),
     }
     true
 }

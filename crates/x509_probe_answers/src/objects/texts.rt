@@ -1,6 +1,6 @@
 //! Identifiers from text, and the names of the bits that are set.
 
-use crate::show::{Answer, Look, look_in};
+use crate::show::{Answer, Tells, look_in};
 use std::str;
 use x509_fields::BitNames;
 use x509_general_names::ReasonFlags;
@@ -66,21 +66,21 @@ fn put_names(names: BitNames, out: &mut Answer) {
 /// The names of the bits that are set.
 struct Names;
 
-impl Look<KeyUsage> for Names {
-    fn look(&self, usage: &KeyUsage, out: &mut Answer) {
-        put_names(usage.names(), out);
+impl Tells<Names> for KeyUsage {
+    fn tell(&self, _asked: &Names, out: &mut Answer) {
+        put_names(self.names(), out);
     }
 }
 
-impl Look<NSCertType> for Names {
-    fn look(&self, types: &NSCertType, out: &mut Answer) {
-        put_names(types.names(), out);
+impl Tells<Names> for NSCertType {
+    fn tell(&self, _asked: &Names, out: &mut Answer) {
+        put_names(self.names(), out);
     }
 }
 
-impl Look<ReasonFlags> for Names {
-    fn look(&self, reasons: &ReasonFlags, out: &mut Answer) {
-        put_names(reasons.names(), out);
+impl Tells<Names> for ReasonFlags {
+    fn tell(&self, _asked: &Names, out: &mut Answer) {
+        put_names(self.names(), out);
     }
 }
 

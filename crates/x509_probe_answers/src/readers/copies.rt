@@ -1,6 +1,6 @@
 //! Copies of values.
 
-use crate::show::{Answer, Look, Show, look_at};
+use crate::show::{Answer, Show, Tells, look_at};
 use x509_certs::{TbsCertificate, X509Certificate};
 use x509_der::FromDer;
 use x509_extensions::X509Extension;
@@ -68,9 +68,9 @@ fn copied<'a, T: FromDer<'a, X509Error> + TryClone + Show, C: Compare<T>>(
 /// Copies attributes of requests, which have a call of their own for it.
 struct AttributeCopy;
 
-impl Look<X509CriAttribute<'_>> for AttributeCopy {
-    fn look(&self, value: &X509CriAttribute<'_>, out: &mut Answer) {
-        put_copy::<X509CriAttribute, Whole>(out, value, value.try_clone());
+impl Tells<AttributeCopy> for X509CriAttribute<'_> {
+    fn tell(&self, _asked: &AttributeCopy, out: &mut Answer) {
+        put_copy::<X509CriAttribute, Whole>(out, self, self.try_clone());
     }
 }
 
@@ -80,12 +80,32 @@ fn copied_attribute(a: &[u8], out: &mut Answer) {
     look_at(out, &AttributeCopy, read);
 }
 
-/// Adds the copy of a value; false where the word names none.
-pub fn answer(word: &str, a: &[u8], out: &mut Answer) -> bool {
+// The words of lists that keep their entries, and of requests.
+fn kept(word: &str, a: &[u8], out: &mut Answer) -> bool {
     match word {
-        "copy_rdn" => copied::<RelativeDistinguishedName, Whole>(a, out),
-        "copy_name" => copied::<X509Name, Whole>(a, out),
-        "copy_general_name" => copied::<GeneralName, Whole>(a, out),
+        "copy_tbs_cert_list" => copied::<TbsCertList, Whole>(a, out),
+        "copy_crl" => copied::<CertificateRevocationList, SignedPart>(a, out),
+        "copy_extension_request" => copied::<ExtensionRequest, Whole>(a, out),
+        "copy_attribute" => copied_attribute(a, out),
+        _ => return false,
+    }
+    true
+}
+
+// The words of lists over their octets, and of entries.
+fn lists(word: &str, a: &[u8], out: &mut Answer) -> bool {
+    match word {
+        "copy_revoked_certificate" => copied::<RevokedCertificate, Whole>(a, out),
+        "copy_crl_entries" => copied::<CertificateListEntries, SignedPart>(a, out),
+        "copy_tbs_cert_list_entries" => copied::<TbsCertListEntries, Whole>(a, out),
+        _ => return kept(word, a, out),
+    }
+    true
+}
+
+// The words of values of extensions.
+fn values(word: &str, a: &[u8], out: &mut Answer) -> bool {
+    match word {
         "copy_subject_alt_name" => copied::<SubjectAlternativeName, Whole>(a, out),
         "copy_issuer_alt_name" => copied::<IssuerAlternativeName, Whole>(a, out),
         "copy_name_constraints" => copied::<NameConstraints, Whole>(a, out),
@@ -98,17 +118,21 @@ pub fn answer(word: &str, a: &[u8], out: &mut Answer) -> bool {
         "copy_authority_info_access" => copied::<AuthorityInfoAccess, Whole>(a, out),
         "copy_subject_info_access" => copied::<SubjectInfoAccess, Whole>(a, out),
         "copy_point_name" => copied::<DistributionPointName, Whole>(a, out),
+        _ => return lists(word, a, out),
+    }
+    true
+}
+
+/// Adds the copy of a value; false where the word names none.
+pub fn answer(word: &str, a: &[u8], out: &mut Answer) -> bool {
+    match word {
+        "copy_rdn" => copied::<RelativeDistinguishedName, Whole>(a, out),
+        "copy_name" => copied::<X509Name, Whole>(a, out),
+        "copy_general_name" => copied::<GeneralName, Whole>(a, out),
         "copy_extension" => copied::<X509Extension, Whole>(a, out),
         "copy_tbs" => copied::<TbsCertificate, Whole>(a, out),
         "copy_certificate" => copied::<X509Certificate, Whole>(a, out),
-        "copy_tbs_cert_list" => copied::<TbsCertList, Whole>(a, out),
-        "copy_revoked_certificate" => copied::<RevokedCertificate, Whole>(a, out),
-        "copy_extension_request" => copied::<ExtensionRequest, Whole>(a, out),
-        "copy_crl" => copied::<CertificateRevocationList, SignedPart>(a, out),
-        "copy_crl_entries" => copied::<CertificateListEntries, SignedPart>(a, out),
-        "copy_tbs_cert_list_entries" => copied::<TbsCertListEntries, Whole>(a, out),
-        "copy_attribute" => copied_attribute(a, out),
-        _ => return false,
+        _ => return values(word, a, out),
     }
     true
 }

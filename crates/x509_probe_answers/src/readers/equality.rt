@@ -41,17 +41,25 @@ fn equality<'a, T: FromDer<'a, X509Error> + PartialEq + Show>(
     }
 }
 
-// The words of lists and requests.
+// The words of lists.
 fn lists(word: &str, a: &[u8], b: &[u8], out: &mut Answer) -> bool {
     match word {
         "eq_tbs_cert_list" => equality::<TbsCertList>(a, b, out),
         "eq_revoked_certificate" => equality::<RevokedCertificate>(a, b, out),
+        _ => return false,
+    }
+    true
+}
+
+// The words of requests and keys, and those of lists.
+fn requests(word: &str, a: &[u8], b: &[u8], out: &mut Answer) -> bool {
+    match word {
         "eq_csr" => equality::<X509CertificationRequest>(a, b, out),
         "eq_csr_info" => equality::<X509CertificationRequestInfo>(a, b, out),
         "eq_attribute" => equality::<X509CriAttribute>(a, b, out),
         "eq_extension_request" => equality::<ExtensionRequest>(a, b, out),
         "eq_rsa_key" => equality::<RSAPublicKey>(a, b, out),
-        _ => return false,
+        _ => return lists(word, a, b, out),
     }
     true
 }
@@ -69,7 +77,7 @@ fn values(word: &str, a: &[u8], b: &[u8], out: &mut Answer) -> bool {
         "eq_policy_mappings" => equality::<PolicyMappings>(a, b, out),
         "eq_name_constraints" => equality::<NameConstraints>(a, b, out),
         "eq_authority_info_access" => equality::<AuthorityInfoAccess>(a, b, out),
-        _ => return lists(word, a, b, out),
+        _ => return requests(word, a, b, out),
     }
     true
 }

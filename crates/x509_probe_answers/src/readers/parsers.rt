@@ -106,6 +106,15 @@ fn calls(word: &str, i: &[u8], out: &mut Answer) -> bool {
         "parse_certificate_strict" => {
             put_uncounted(out, i, parse_x509_certificate_strict(alloc, i));
         }
+        _ => return list_calls(word, i, out),
+    }
+    true
+}
+
+// The calls of the facade for lists and requests.
+fn list_calls(word: &str, i: &[u8], out: &mut Answer) -> bool {
+    let alloc = out.alloc();
+    match word {
         "parse_crl" => put_uncounted(out, i, parse_x509_crl(alloc, i)),
         "parse_crl_entries" => put_uncounted(out, i, parse_x509_crl_entries(alloc, i)),
         "parse_crl_strict_entries" => {
@@ -143,6 +152,15 @@ fn places(word: &str, i: &[u8], out: &mut Answer) -> bool {
         "where_parse_certificate" => {
             put_located(out, i, parse_x509_certificate_located(alloc, i));
         }
+        _ => return list_places(word, i, out),
+    }
+    true
+}
+
+// The same of calls for lists and requests.
+fn list_places(word: &str, i: &[u8], out: &mut Answer) -> bool {
+    let alloc = out.alloc();
+    match word {
         "where_parse_crl" => put_located(out, i, parse_x509_crl_located(alloc, i)),
         "where_parse_crl_entries" => {
             put_located(out, i, parse_x509_crl_entries_located(alloc, i));

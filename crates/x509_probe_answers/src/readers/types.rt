@@ -290,14 +290,9 @@ fn parts(how: How, word: &str, i: &[u8], out: &mut Answer) -> bool {
     true
 }
 
-// The words of lists, requests and keys.
-fn structures(how: How, word: &str, i: &[u8], out: &mut Answer) -> bool {
+// The words of requests and keys.
+fn requests(how: How, word: &str, i: &[u8], out: &mut Answer) -> bool {
     match word {
-        "crl" => field::<CertificateRevocationList>(how, i, out),
-        "crl_entries" => field::<CertificateListEntries>(how, i, out),
-        "tbs_cert_list" => field::<TbsCertList>(how, i, out),
-        "tbs_cert_list_entries" => field::<TbsCertListEntries>(how, i, out),
-        "revoked_certificate" => field::<RevokedCertificate>(how, i, out),
         "csr" => field::<X509CertificationRequest>(how, i, out),
         "csr_info" => field::<X509CertificationRequestInfo>(how, i, out),
         "attribute" => field::<X509CriAttribute>(how, i, out),
@@ -305,6 +300,19 @@ fn structures(how: How, word: &str, i: &[u8], out: &mut Answer) -> bool {
         "rsa_key" => field::<RSAPublicKey>(how, i, out),
         "ecdsa_value" => element::<EcdsaSigValue>(how, i, out),
         _ => return values(how, word, i, out),
+    }
+    true
+}
+
+// The words of lists of revoked certificates.
+fn revocation(how: How, word: &str, i: &[u8], out: &mut Answer) -> bool {
+    match word {
+        "crl" => field::<CertificateRevocationList>(how, i, out),
+        "crl_entries" => field::<CertificateListEntries>(how, i, out),
+        "tbs_cert_list" => field::<TbsCertList>(how, i, out),
+        "tbs_cert_list_entries" => field::<TbsCertListEntries>(how, i, out),
+        "revoked_certificate" => field::<RevokedCertificate>(how, i, out),
+        _ => return requests(how, word, i, out),
     }
     true
 }
@@ -323,7 +331,7 @@ fn types(how: How, word: &str, i: &[u8], out: &mut Answer) -> bool {
         "extension" => field::<X509Extension>(how, i, out),
         "tbs" => field::<TbsCertificate>(how, i, out),
         "certificate" => field::<X509Certificate>(how, i, out),
-        _ => return structures(how, word, i, out),
+        _ => return revocation(how, word, i, out),
     }
     true
 }

@@ -23,32 +23,32 @@ pub fn put_result<T: Show, E: fmt::Debug + ReadError>(out: &mut Answer, made: Re
     }
 }
 
-/// What is said of a value of another type.
-pub trait Look<T> {
+/// What tells something of itself where it is asked so.
+pub trait Tells<Q> {
     /// Adds it.
-    fn look(&self, value: &T, out: &mut Answer);
+    fn tell(&self, asked: &Q, out: &mut Answer);
 }
 
-/// Adds what a look at a value says that was read, or that it can't be read.
-pub fn look_at<T: Show, E: ReadError, L: Look<T>>(
+/// Adds what a value that was read tells where it is asked so, or that it can't be read.
+pub fn look_at<T: Show + Tells<Q>, E: ReadError, Q>(
     out: &mut Answer,
-    look: &L,
+    asked: &Q,
     read: Result<(&[u8], T), Err<E>>,
 ) {
     match read {
-        Ok((_, value)) => look.look(&value, out),
+        Ok((_, value)) => value.tell(asked, out),
         Err(refusal) => out.refused(&refusal),
     }
 }
 
 /// The same of a value that is read at the front of the bytes.
-pub fn look_in<'a, T: FromDer<'a, X509Error> + Show, L: Look<T>>(
+pub fn look_in<'a, T: FromDer<'a, X509Error> + Show + Tells<Q>, Q>(
     out: &mut Answer,
-    look: &L,
+    asked: &Q,
     i: &'a [u8],
 ) {
     let read = T::from_der(out.alloc(), i);
-    look_at(out, look, read);
+    look_at(out, asked, read);
 }
 
 /// Two values that were read; none where one can't be read, which is added.

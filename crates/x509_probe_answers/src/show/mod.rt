@@ -13,5 +13,5 @@ mod requests;
 mod usages;
 
 pub use answer::Answer;
-pub use base::{Look, Octets, Show, Text, both, look_at, look_in, put_all, put_result, read_both};
+pub use base::{Octets, Show, Tells, Text, both, look_at, look_in, put_all, put_result, read_both};
 pub use usages::Hasher;

@@ -1,16 +1,18 @@
 //! The forms that users write, each once.
 
-use super::made;
+use super::{Ends, made};
 use crate::{
     Next, count_revoked, days_left, days_valid, entry_in_octets, entry_of, fault_in,
     field_at_fault, first_identifier, has_strong_key, hosts, is_another_structure, is_known,
     is_modest, next_after, outline, strict_fault_in,
 };
+use x509_parser::certificate::X509Certificate;
 use x509_parser::certification_request::X509CertificationRequest;
 use x509_parser::der::{Err, FromDer, Stop, Tag, UnsignedBytes};
 use x509_parser::error::X509Error;
 use x509_parser::leniencies::{Leniency, StrictRefusal};
 use x509_parser::objects::oid_registry;
+use x509_parser::revocation_list::CertificateRevocationList;
 use x509_parser::{parse_x509_certificate, parse_x509_crl};
 
 /// A certificate of two hosts and an address, with a point on a curve of 256 bits, from 1970 to the end of 2049.
@@ -48,10 +50,9 @@ const ASKS_WITH_PASSWORD: &[u8] = b"\
     \x02\x01\x82\x09\x62\x2E\x65\x78\x61\x6D\x70\x6C\x65\x30\x10\x06\x09\x2A\x86\x48\x86\xF7\x0D\x01\x09\x07\x31\x03\x0C\x01\x61\x30\
     \x03\x06\x01\x2A\x03\x01\x00";
 
-#[test]
-fn of_a_certificate(rt: HostRuntime) {
-    let (_, certificate) = made(&rt, parse_x509_certificate(rt.alloc(), HOSTS));
-    let hosts = made(&rt, hosts(rt.alloc(), certificate));
+/// That the certificate is for both hosts, for 80 years. What is looked at stands first among the parameters (docs/WORKING.md, "What a proof costs").
+fn expect_hosts(certificate: &X509Certificate<'_>, rt: &impl Ends) {
+    let hosts = made(rt, hosts(rt.alloc(), certificate));
     let [first, second] = hosts.as_slice() else {
         panic!(rt; "not two hosts");
     };
@@ -67,14 +68,26 @@ fn of_a_certificate(rt: HostRuntime) {
 }
 
 #[test]
-fn of_a_list(rt: HostRuntime) {
-    let (_, list) = made(&rt, parse_x509_crl(rt.alloc(), LIST));
+fn of_a_certificate(rt: HostRuntime) {
+    let (_, certificate) = made(&rt, parse_x509_certificate(rt.alloc(), HOSTS));
+    expect_hosts(certificate, &rt);
+}
+
+/// That the list has an entry of the first serial, and none of the second.
+fn expect_entries(list: &CertificateRevocationList<'_>, rt: &impl Ends) {
     let (there, away) = (UnsignedBytes::new(b"\xA1"), UnsignedBytes::new(b"\x08"));
     assert!(rt;
         matches!(entry_of(list, &there), Some(entry) if entry.raw_serial() == b"\x00\xA1".as_slice())
     );
     assert!(rt; entry_of(list, &away).is_none());
     assert!(rt; count_revoked(list, &[there, away, UnsignedBytes::new(b"\x07")]) == Ok(2));
+}
+
+#[test]
+fn of_a_list(rt: HostRuntime) {
+    let (_, list) = made(&rt, parse_x509_crl(rt.alloc(), LIST));
+    expect_entries(list, &rt);
+    let there = UnsignedBytes::new(b"\xA1");
     let found = made(&rt, entry_in_octets(rt.alloc(), LIST, &there));
     assert!(rt; matches!(found, Some((1, entry)) if entry.raw_serial() == b"\x00\xA1".as_slice()));
 }

@@ -1,81 +1,51 @@
 -- One line more, and what stands behind the last.
-use Rattle.std.proofs.Common.{◌≡◌, ◌∷◌, [], ℕ, List, drop, refl, subst, sym, ap, ◌∙◌, rules}
-use Rattle.x509_elements.specs.Elements.{elements_of}
+use Rattle.std.proofs.Common.{◌≡◌, ◌∷◌, [], ◌++◌, drop, take, subst, sym, ap, ◌∙◌}
+use Rattle.x509_elements.specs.Elements.{elements_of, line_of}
 use Rattle.x509_elements.specs.Walks.{IsNext, left}
-use Rattle.x509_report.specs.Dumps.{count_found, end_told, found_lines, marked_lines, open_found}
-use Rattle.x509_report.specs.Told.{Tells}
+use Rattle.x509_report.specs.Dumps.{element_line, mark_in, marked, marked_lines, open_told, value_marks, values_behind}
+use Rattle.x509_report.specs.Told.{Prints, alone}
 use Rattle.x509_report.specs.Views.{part_of}
-use Rattle.x509_report.proofs.ElementLines.{found_next, found_stop, tells_last}
-use Rattle.x509_report.proofs.Leads.{Leads, leads_start, leads_step, leads_stop, stops_by, unwritten}
+use Rattle.x509_report.proofs.Prints.{halted_any, leads_step, leads_stop}
 use Rattle.x509_report.proofs.dumps.report_lines.Goals as goal
 
 pub loop-found-init : goal.loop-found-init
 loop-found-init g c =
     let view = c.args.view.now in
     let octets = c.args.octets.now in
-    let whole = (marked_lines c.args.form view octets c.args.values.now 0 (elements_of (part_of view) octets)) in
-    let old = g.W.Write.contents c.args.printer.now.out in
     let same : c.into_iter-found-iterator.result ≡ c.dump-found-items.result = cc (c.into_iter-found-iterator.ensures.into_iter_gives) in
     let lines : left c.into_iter-found-iterator.result ≡ elements_of (part_of view) octets = ap left same ∙ c.dump-found-items.ensures.lines ∙ ap (λ p. elements_of p octets) c.part_of.ensures in
-    record { form = refl; leads = subst (λ ls. Leads old old ls whole) (ap (marked_lines c.args.form view octets c.args.values.now 0) (sym lines)) (leads_start old whole) }
+    λ new p. subst (λ ls. Prints c.args.printer.now new (alone (marked_lines c.args.form view octets c.args.values.now 0 ls))) lines p
+
+pub returns-then-has_stopped : goal.returns-then-has_stopped
+returns-then-has_stopped g c = leads_stop _ _ _ _ c.if-has_stopped.ensures c.loop-found.invariant
+
+pub returns-in_default : goal.returns-in_default
+returns-in_default g c = c.loop-found.invariant _ (halted_any _ _ _ c.stop.ensures)
 
 pub loop-found-preserved : goal.loop-found-preserved
+unfolding marked_lines
 loop-found-preserved g c =
+    let form = c.args.form in
     let view = c.args.view.now in
     let octets = c.args.octets.now in
+    let values = c.loop-found.left.now in
+    let opened = c.loop-found.opened in
+    let line = line_of c.in-Ok.line in
+    let now = c.loop-found.printer in
+    let next = c.report_line-opened.new.printer in
     let s = c.loop-found.found-iterator in
     let t = c.next.new.self in
-    let opened = c.loop-found.opened in
-    let next : IsNext s c.in-Some.found t = c.in-Some.ensures.steps in
-    let whole = marked_lines c.args.form view octets c.args.values.now 0 (elements_of (part_of view) octets) in
-    let old = g.W.Write.contents c.args.printer.now.out in
-    let new = g.W.Write.contents c.report_found.new.printer.out in
-    let values = c.loop-found.left.now in
-    let one = leads_step old _ new (found_lines c.args.form view values opened c.in-Some.found) (marked_lines c.args.form view octets (drop (count_found values c.in-Some.found) values) (open_found c.args.form c.in-Some.found) (left t)) (marked_lines c.args.form view octets values opened (left s)) ((marked_lines c.args.form view octets c.args.values.now 0 (elements_of (part_of view) octets)))
-    (found_next c.args.form view octets values opened s t c.in-Some.found next c.in_ok-open.ensures.found) c.loop-found.invariant.leads c.in_ok-open.ensures.lines in
-    record {
-      form = c.in_ok-open.ensures.form ∙ c.loop-found.invariant.form;
-      leads = subst (λ vs. Leads old new (marked_lines c.args.form view octets vs c.in_ok-open.open (left t)) whole) (sym c.behind-left.ensures)
-          (subst (λ n. Leads old new (marked_lines c.args.form view octets (drop n values) c.in_ok-open.open (left t)) whole) (sym c.in_ok-open.ensures.count)
-          (subst (λ n. Leads old new (marked_lines c.args.form view octets (drop (count_found values c.in-Some.found) values) n (left t)) whole) (sym c.in_ok-open.ensures.opened) one));
-    }
-
-pub returns-in_err-open : goal.returns-in_err-open
-returns-in_err-open g c = record {
-  lines = (let view = c.args.view.now in
-      let octets = c.args.octets.now in
-      let s = c.loop-found.found-iterator in
-      let t = c.next.new.self in
-      let next : IsNext s c.in-Some.found t = c.in-Some.ensures.steps in
-      let whole = (marked_lines c.args.form view octets c.args.values.now 0 (elements_of (part_of view) octets)) in
-      stops_by c.from_residual.result _ _ _ whole c.from_residual.ensures.1
-      (λ h. found_stop c.args.form view octets c.loop-found.left.now c.loop-found.opened s t c.in-Some.found _ _ _ whole next c.loop-found.invariant.leads (c.in_err-open.ensures.lines h)));
-  form = search rules;
-}
+    let step : left s ≡ line ∷ left t = subst (λ f. IsNext s f t) c.in-Ok.is c.in-Some.ensures.steps in
+    let count = c.count_in-count.ensures.count in
+    let written = subst (λ n. Prints now next (alone ((element_line form opened line ++ (mark_in form view line ++ value_marks form (take n values))) ∷ []))) count c.report_line-opened.ensures.lines in
+    let leads = leads_step _ _ _ (alone (marked form view values opened line ∷ [])) (alone (marked_lines form view octets (values_behind line values) (open_told form line) (left t))) _ _
+    (ap (λ ls. alone (marked_lines form view octets values opened ls)) step) c.loop-found.invariant written in
+    λ new p. leads new
+    (subst (λ vs. Prints next new (alone (marked_lines form view octets vs (open_told form line) (left t)))) (c.behind-left.ensures ∙ ap (λ n. drop n values) count)
+    (subst (λ n. Prints next new (alone (marked_lines form view octets c.behind-left.result.now n (left t)))) c.report_line-opened.ensures.opened p))
 
 pub returns : goal.returns
 unfolding marked_lines
-returns g c = record {
-  lines = (let view = c.args.view.now in
-      let octets = c.args.octets.now in
-      let opened = c.loop-found.opened in
-      let old = g.W.Write.contents c.args.printer.now.out in
-      let now = g.W.Write.contents c.loop-found.printer.out in
-      let new = g.W.Write.contents c.put_text.new.self.out in
-      let whole = (marked_lines c.args.form view octets c.args.values.now 0 (elements_of (part_of view) octets)) in
-      let none : left c.loop-found.found-iterator ≡ [] = c.in-None.ensures.steps in
-      let leads : Leads old now (end_told c.args.form view octets c.loop-found.left.now opened ∷ []) whole = subst (λ ls. Leads old now (marked_lines c.args.form view octets c.loop-found.left.now opened ls) whole) none c.loop-found.invariant.leads in
-      tells_last c.put_text.result old now new (end_told c.args.form view octets c.loop-found.left.now opened ∷ []) whole leads
-      (subst (λ (t : List ℕ). Tells c.put_text.result now new (t ∷ [])) (c.as_str.ensures.value ∙ c.in_ok-text.ensures) c.put_text.ensures.lines));
-  form = search rules;
-}
-
-pub returns-in_err-text : goal.returns-in_err-text
-returns-in_err-text g c = record {
-  lines = (let view = c.args.view.now in
-      let octets = c.args.octets.now in
-      let rest = marked_lines c.args.form view octets c.loop-found.left.now c.loop-found.opened (left c.loop-found.found-iterator) in
-      stops_by _ _ _ _ _ c.from_residual-in_err-text.ensures.1
-      (λ h. leads_stop _ _ _ [] rest rest ((marked_lines c.args.form view octets c.args.values.now 0 (elements_of (part_of view) octets))) refl c.loop-found.invariant.leads (unwritten _ [])));
-  form = search rules;
-}
+returns g c = c.loop-found.invariant _
+    (subst (λ ls. Prints c.loop-found.printer c.report_end.new.printer (alone (marked_lines c.args.form c.args.view.now c.args.octets.now c.loop-found.left.now c.loop-found.opened ls)))
+    (sym c.in-None.ensures.steps) c.report_end.ensures)

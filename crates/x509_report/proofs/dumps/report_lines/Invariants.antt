@@ -1,15 +1,12 @@
 -- The lines that are left lead to the end.
-use Rattle.std.proofs.Common.{◌≡◌}
 use Rattle.x509_elements.specs.Elements.{elements_of}
 use Rattle.x509_elements.specs.Walks.{left}
 use Rattle.x509_report.specs.Dumps.{marked_lines}
+use Rattle.x509_report.specs.Told.{alone}
 use Rattle.x509_report.specs.Views.{part_of}
-use Rattle.x509_report.proofs.Leads.{Leads}
+use Rattle.x509_report.proofs.Prints.{Leads}
 use Rattle.x509_report.proofs.dumps.report_lines.Given as goal
 
 abbrev pub invariant-loop-found : goal.invariant-loop-found
-invariant-loop-found g l = record {
-  form : l.printer.form ≡ l.initial.printer.form;
-  leads : Leads (g.W.Write.contents l.initial.printer.out) (g.W.Write.contents l.printer.out) (marked_lines l.form l.view l.octets l.left l.opened (left l.found-iterator))
-      (marked_lines l.form l.view l.octets l.fn.values 0 (elements_of (part_of l.view) l.octets));
-}
+invariant-loop-found g l = Leads l.initial.printer l.printer (alone (marked_lines l.form l.view l.octets l.left l.opened (left l.found-iterator)))
+    (alone (marked_lines l.form l.view l.octets l.fn.values 0 (elements_of (part_of l.view) l.octets)))
