@@ -1,6 +1,6 @@
 //! The member of a structure in which an octet lies.
 
-ghost use Rattle.std.specs.Prelude.{◌≡◌, length, option_map};
+ghost use Rattle.std.specs.Prelude.{◌≡◌, option_map};
 ghost use Rattle.x509_elements.specs.Cursors.{first_of};
 ghost use Rattle.x509_elements.specs.Paths.{find_in, is_field, lead, member_at, member_of};
 

@@ -1,6 +1,6 @@
 //! The path of names to an octet.
 
-ghost use Rattle.std.specs.Prelude.{◌≡◌, [], MatchResult, OnOk, string_bytes, true, ⊤};
+ghost use Rattle.std.specs.Prelude.{◌≡◌, [], MatchResult, OnOk, string_bytes, ⊤};
 ghost use Rattle.x509_elements.specs.Cursors.{called_of};
 ghost use Rattle.x509_elements.specs.Paths.{deepest, dotted, named, numbered, path};
 

@@ -1,11 +1,11 @@
 //! The walk down the parts of an object that don't stand plainly.
 
-ghost use Rattle.std.specs.Prelude.{◌≡◌, ◌+◌, ◌++◌, ◌<◌, ◌≤◌, ◌^◌, ℕ, List, MatchResult, OnOk, ⊤, length};
+ghost use Rattle.std.specs.Prelude.{◌≡◌, ◌+◌, ◌++◌, ◌<◌, ◌≤◌, ◌^◌, MatchResult, OnOk, ⊤, length};
 ghost use Rattle.x509_elements.specs.Cursors.{called_of};
 ghost use Rattle.x509_elements.specs.Seen.{seen_of};
 ghost use Rattle.x509_elements.specs.Judgements.{part_judged};
 ghost use Rattle.x509_elements.specs.declared.judged.Judged.TheVariants.{Lenient, Plain};
-ghost use Rattle.x509_elements.specs.Uses.{among, behind_of, closes, contents_of, deepest, inside, is_wrapper, leniencies};
+ghost use Rattle.x509_elements.specs.Uses.{among, behind_of, closes, contents_of, inside, is_wrapper, leniencies};
 ghost use Rattle.x509_elements.specs.Uses.{one_use, own_rule, uses_by, part_rule, rule_of, told, unless, unread_rule};
 
 use crate::cursor::{Called, Cursor};

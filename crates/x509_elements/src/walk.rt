@@ -2,7 +2,7 @@
 
 ghost use Rattle.std.specs.Prelude.{◌≡◌, ◌∷◌, [], ◌+◌, ◌-◌, ◌<◌, ◌≤◌, IfErr, IfOk, MatchOption, Ok, Err, length};
 ghost use Rattle.std.specs.Iterator.{at_most};
-ghost use Rattle.x509_elements.specs.Elements.{ArePlaced, elements_of, line_of, octets_of, refused_line};
+ghost use Rattle.x509_elements.specs.Elements.{ArePlaced, elements_of, line_of, octets_of};
 ghost use Rattle.x509_elements.specs.Fronts.{front_at, front_of};
 ghost use Rattle.x509_elements.specs.Walks.{IsNext, left, window};
 ghost use Rattle.x509_elements.specs.Cursors.{standing_of};

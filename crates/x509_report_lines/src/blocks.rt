@@ -1,7 +1,7 @@
 //! The blocks of a PEM text (RFC 7468), wherever they stand in it.
-ghost use Rattle.std.specs.Prelude.{◌≡◌, ◌++◌, IfOk, OnOk, IfErr, Ok, codes, map, option_map, option_to_list, string_bytes};
+ghost use Rattle.std.specs.Prelude.{◌≡◌, ◌++◌, IfOk, OnOk, Ok, codes, map, option_map, option_to_list};
 ghost use Rattle.std.specs.Str.Lines.{strip_carriage_return};
-ghost use Rattle.x509_report_lines.specs.Blocks.{Pem, Reading, behind_line, label_after, step_line, step, start, all_of, lines_of, blocks_of, ended, with_line};
+ghost use Rattle.x509_report_lines.specs.Blocks.{Pem, Reading, behind_line, label_after, step, lines_of, blocks_of, ended, with_line};
 ghost use Rattle.x509_report_lines.specs.Blocks.{symbols_of};
 
 use std::alloc::{AllocError, Global};

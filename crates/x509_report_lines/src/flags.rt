@@ -1,6 +1,6 @@
 //! The words of what is set.
 
-ghost use Rattle.std.specs.Prelude.{◌≡◌, map};
+ghost use Rattle.std.specs.Prelude.{map};
 ghost use Rattle.json.specs.Json as json;
 ghost use Rattle.x509_report_lines.specs.Says.{SaysEach, SaysUnder, list_of};
 ghost use Rattle.x509_report_lines.specs.Flags.{set_words};

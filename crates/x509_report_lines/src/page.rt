@@ -1,12 +1,12 @@
 //! Lines of the tokens of a JSON text.
 
-ghost use Rattle.std.specs.Prelude.{◌≡◌, ◌+◌, ◌-◌, ◌*◌, true, ◌++◌, ◌∷◌, [], IfOk, replicate, string_bytes, codes, min};
+ghost use Rattle.std.specs.Prelude.{◌≡◌, ◌+◌, ◌-◌, ◌*◌, true, ◌++◌, ◌∷◌, [], IfOk, string_bytes, min};
 ghost use Rattle.std.specs.List.{list_all};
 ghost use Rattle.json.specs.Lex.{tokens};
 ghost use Rattle.json.specs.Reads.{token_of};
 ghost use Rattle.x509_report_lines.specs.Kept.{Becomes, Grows, Kept};
-ghost use Rattle.x509_report_lines.specs.Lines.{Page, step, page_of, text_of, lead, opening, indent, is_long_hex, is_hex_digit, break_before, broken, with_hex};
-ghost use Rattle.x509_report_lines.specs.Lines.{with_text, with_value, opened, closed, after_key, blank};
+ghost use Rattle.x509_report_lines.specs.Lines.{Page, step, text_of, lead, indent, is_long_hex, is_hex_digit, break_before, broken, with_hex};
+ghost use Rattle.x509_report_lines.specs.Lines.{with_text, with_value, opened, closed, after_key};
 ghost use Rattle.x509_report_lines.specs.Escape.{escaped};
 
 use crate::escape::push_escaped;

@@ -1,6 +1,6 @@
 //! What reports say of certificates.
 
-ghost use Rattle.std.specs.Prelude.{◌≡◌, length, map};
+ghost use Rattle.std.specs.Prelude.{length, map};
 ghost use Rattle.std.specs.String.{string_bytes};
 ghost use Rattle.json.specs.Json as json;
 ghost use Rattle.x509_certs.specs.Certificate.{certificate_of};

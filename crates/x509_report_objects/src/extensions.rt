@@ -1,6 +1,6 @@
 //! What reports say of extensions.
 
-ghost use Rattle.std.specs.Prelude.{◌≡◌, map};
+ghost use Rattle.std.specs.Prelude.{map};
 ghost use Rattle.x509_extensions.specs.Extension.{extension_of};
 ghost use Rattle.x509_extensions.specs.Parsed.{parsed_of};
 ghost use Rattle.x509_report_lines.specs.Says.{Says, SaysEach, SaysUnder, list_of};

@@ -1,7 +1,6 @@
 //! What a report says of the lenient rules that an object uses.
 
 ghost use Rattle.std.specs.Prelude.{◌≡◌, option_map, MatchResult, ⊤};
-ghost use Rattle.x509_elements.specs.Words.{leniency_word};
 ghost use Rattle.x509_report_lines.specs.Says.{Says, SaysEach, SaysUnder};
 ghost use Rattle.x509_report_objects.specs.Leniencies.{first_uses, use_report, use_with_path, uses_unless};
 

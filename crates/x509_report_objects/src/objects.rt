@@ -1,6 +1,6 @@
 //! The line of an object, whatever it is.
 
-ghost use Rattle.std.specs.Prelude.{◌≡◌, ◌∷◌, [], codes, length, None, IfOk, OnOk, option_map};
+ghost use Rattle.std.specs.Prelude.{◌≡◌, ◌∷◌, [], length, None, IfOk, OnOk, option_map};
 ghost use Rattle.json.specs.Json.{array, string};
 ghost use Rattle.x509_report_lines.specs.Says.{Says, SaysEach, SaysMembers, SaysUnder, SaysWhole, count, items_of, list_of as array_of, optional};
 ghost use Rattle.x509_report_objects.specs.Objects.{all_tried, attempt_members, attempt_report, failed_report, found_members, is_strict};

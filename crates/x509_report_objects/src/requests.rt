@@ -1,6 +1,6 @@
 //! What reports say of certification requests.
 
-ghost use Rattle.std.specs.Prelude.{◌≡◌, map};
+ghost use Rattle.std.specs.Prelude.{map};
 ghost use Rattle.x509_requests.specs.CriAttribute.{attribute_of, parsed_of};
 ghost use Rattle.x509_requests.specs.Request.{certification_request_of};
 ghost use Rattle.x509_requests.specs.RequestInfo.{info_of};

@@ -1,7 +1,5 @@
 //! A validator and a visitor of a user's own.
 
-ghost use Rattle.std.specs.Prelude.{◌≡◌};
-
 use std::alloc::Global;
 use x509_parser::certificate::X509Certificate;
 use x509_parser::error::X509Error;

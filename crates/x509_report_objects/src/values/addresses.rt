@@ -1,6 +1,6 @@
 //! Addresses of hosts as text.
 
-ghost use Rattle.std.specs.Prelude.{◌≡◌, ◌≤◌, IfOk, option_map, string_bytes, length, take, drop};
+ghost use Rattle.std.specs.Prelude.{◌≡◌, IfOk, option_map, string_bytes};
 ghost use Rattle.x509_report_objects.specs.Addresses.{address_text, host_text, with_mask};
 
 use std::alloc::{AllocError, Global};

@@ -1,6 +1,5 @@
 //! What reports say of algorithms and of bits.
 
-ghost use Rattle.std.specs.Prelude.{◌≡◌};
 ghost use Rattle.x509_der.specs.Primitives.{Bits, bit_string};
 ghost use Rattle.x509_der.specs.Reading.{Element, element_of};
 ghost use Rattle.x509_fields.specs.Algorithm.{Algorithm, algorithm_of};

@@ -1,6 +1,6 @@
 //! What reports say of the values of extensions that say where more is found, and who signed.
 
-ghost use Rattle.std.specs.Prelude.{◌≡◌, ℕ, map};
+ghost use Rattle.std.specs.Prelude.{ℕ, map};
 ghost use Rattle.json.specs.Json as json;
 ghost use Rattle.x509_der.specs.Promises.{option_view};
 ghost use Rattle.x509_general_names.specs.AuthorityKeyIdentifier.{AuthorityKeyIdentifierValue, authority_key_identifier_of};
@@ -9,7 +9,7 @@ ghost use Rattle.x509_general_names.specs.DistributionPoints.{Point, point_of};
 ghost use Rattle.x509_general_names.specs.InformationAccess.{Access, access_of};
 ghost use Rattle.x509_general_names.specs.IssuingDistributionPoint.{IssuingPoint, issuing_point_of};
 ghost use Rattle.x509_general_names.specs.ReasonFlags.{reason_flags_of};
-ghost use Rattle.x509_report_lines.specs.Says.{SaysMembers, SaysUnder, list_of};
+ghost use Rattle.x509_report_lines.specs.Says.{SaysMembers};
 ghost use Rattle.x509_names.specs.Names.{relative_name_of};
 ghost use Rattle.x509_general_names.specs.GeneralName.{general_name_of};
 ghost use Rattle.x509_report_objects.specs.Authorities.{reason_flags_report, authority_key_identifier_report, name_members, point_name_members, point_report};

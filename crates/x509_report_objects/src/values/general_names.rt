@@ -1,6 +1,6 @@
 //! What reports say of general names.
 
-ghost use Rattle.std.specs.Prelude.{◌≡◌, ◌++◌, ◌∷◌, [], option_map, string_bytes};
+ghost use Rattle.std.specs.Prelude.{◌++◌, ◌∷◌, [], option_map, string_bytes};
 ghost use Rattle.x509_general_names.specs.GeneralName.{GeneralNameValue, general_name_of};
 ghost use Rattle.x509_general_names.specs.NameConstraints.{Constraints, constraints_of, subtree_of};
 ghost use Rattle.x509_report_lines.specs.Says.{SaysMembers};

@@ -1,6 +1,5 @@
 //! What reports say of public keys.
 
-ghost use Rattle.std.specs.Prelude.{◌≡◌};
 ghost use Rattle.x509_keys.specs.KeyInfo.{key_info_of};
 ghost use Rattle.x509_keys.specs.KeySizes.{algorithm_in, curve_in, size_in};
 ghost use Rattle.x509_keys.specs.PublicKey.{key_in};

@@ -1,6 +1,6 @@
 //! What reports say of names.
 
-ghost use Rattle.std.specs.Prelude.{◌≡◌, List};
+ghost use Rattle.std.specs.Prelude.{List};
 ghost use Rattle.json.specs.Json as json;
 ghost use Rattle.x509_names.specs.NameTexts.{lossy_name_text};
 ghost use Rattle.x509_names.specs.Objects.{registered_name};

@@ -1,6 +1,6 @@
 //! What a report says of a value, and of a list of values.
 
-ghost use Rattle.std.specs.Prelude.{◌≡◌, ℕ, IfOk, map, option_map};
+ghost use Rattle.std.specs.Prelude.{map, option_map};
 ghost use Rattle.json.specs.Json as json;
 ghost use Rattle.x509_der.specs.Promises.{option_view};
 ghost use Rattle.x509_report_lines.specs.Says.{Says, SaysEach, SaysUnder, list_of, optional};

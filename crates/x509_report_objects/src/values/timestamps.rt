@@ -1,6 +1,5 @@
 //! What reports say of a log's promise to publish a certificate.
 
-ghost use Rattle.std.specs.Prelude.{◌≡◌};
 ghost use Rattle.x509_values.specs.Timestamp.{TimestampValue, signed_of, timestamp_of};
 ghost use Rattle.x509_report_lines.specs.Says.{SaysMembers};
 ghost use Rattle.x509_report_objects.specs.Timestamps.{promise_members, signed_members, timestamp_report};

@@ -1,6 +1,6 @@
 //! Values under a key.
 
-ghost use Rattle.std.specs.Prelude.{◌≡◌, [], ◌∷◌, ◌++◌, IfSome, OnOk, option_map};
+ghost use Rattle.std.specs.Prelude.{IfSome, option_map};
 ghost use Rattle.json.specs.Json as json;
 ghost use Rattle.json.specs.Token.{key, string};
 ghost use Rattle.x509_report_lines.specs.Says.{Says, SaysUnder, optional, count};

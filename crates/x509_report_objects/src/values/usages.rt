@@ -1,6 +1,6 @@
 //! What reports say of the values of extensions that say what a certificate may be used for.
 
-ghost use Rattle.std.specs.Prelude.{◌≡◌, ℕ, map};
+ghost use Rattle.std.specs.Prelude.{ℕ};
 ghost use Rattle.x509_values.specs.BasicConstraints.{BasicConstraintsValue, basic_constraints_of};
 ghost use Rattle.x509_values.specs.ExtendedKeyUsage.{Usages, usages_of};
 ghost use Rattle.x509_values.specs.KeyUsage.{key_usage_of};
@@ -9,7 +9,6 @@ ghost use Rattle.x509_values.specs.Policies.{PolicyQualifierValue, PolicyValue, 
 ghost use Rattle.x509_values.specs.PolicyConstraints.{PolicyConstraintsValue, policy_constraints_of};
 ghost use Rattle.x509_values.specs.PolicyMapping.{PolicyMappingValue, policy_mapping_of};
 ghost use Rattle.json.specs.Json as json;
-ghost use Rattle.x509_report_lines.specs.Says.{SaysUnder, list_of};
 ghost use Rattle.x509_report_objects.specs.Usages.{basic_constraints_report, key_usage_report, ns_cert_type_report, policy_constraints_report};
 ghost use Rattle.x509_report_objects.specs.Usages.{inhibit_any_policy_report, qualifier_report, policy_report, policy_mapping_report};
 ghost use Rattle.x509_report_objects.specs.Usages.{extended_key_usage_report, reason_report};
