@@ -1,4 +1,4 @@
--- What is told of the objects of a file, lines, one behind another, and whether every object was taken; and what a printer writes of it.
+-- What is told of the objects of a file (lines, one behind another, and whether every object was taken), and what a printer writes of it.
 use Rattle.std.specs.Prelude.{◌≡◌, ℕ, ◌≤◌, List, [], ◌++◌, Bool, true, false, ◌&&◌, Option, Some, None, Result, Ok, Err, ⊤, flat_map, length, take}
 use Rattle.std.specs.Io.KnownBytes.{Appends}
 use Rattle.json.specs.Json.{Json}

@@ -196,11 +196,16 @@ impl<W: Write> Printer<W> {
         self.taken &= taken;
     }
 
-    /// Writes pieces that stand around the objects of a page, where a page is written.
+    /// Writes pieces that stand around the objects of a page, where a page is written and it hasn't stopped.
+    ///
+    /// # Errors
+    ///
+    /// That of a write.
     pub fn put_around(&mut self, form: Form, pieces: &[&str]) -> io::Result<()>
-        ensures { (self.new.taken ≡ self.old.taken) × (self.new.stopped ≡ self.old.stopped) }
+        ensures same { (self.new.taken ≡ self.old.taken) × (self.new.stopped ≡ self.old.stopped) }
+        ensures still { is_some self.old.stopped ≡ true → self.new ≡ self.old }
     {
-        if form == Form::Html {
+        if form == Form::Html && !self.has_stopped() {
             for piece in pieces {
                 self.out.write_all(piece.as_bytes())?;
             }
