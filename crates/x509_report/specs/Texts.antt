@@ -25,6 +25,12 @@ begun forms.Json = []
 begun forms.Text = []
 begun forms.Html = codes "<li>\n" ∷ []
 
+-- what stands around the objects, where a page is written
+abbrev pub around : Form → List (List ℕ) → List (List ℕ)
+around forms.Json pieces = []
+around forms.Text pieces = []
+around forms.Html pieces = pieces
+
 abbrev pub object_lines : Form → List Token → List (List ℕ)
 object_lines form line = begun form ++ (line_text form line ∷ [])
 

@@ -45,7 +45,7 @@ fn report_files(rt: &HostRuntime, options: &Options<'_>) -> io::Result<u8> {
     let out = BufWriter::new(alloc, Progress::new(rt, io::writer(rt)))?;
     let mut printer = Printer::new(alloc, out);
     let form = options.asked.form;
-    printer.put_around(form, &HEAD)?;
+    printer.put_around(form, &HEAD);
     let mut status = TAKEN;
     for file in &options.files {
         let octets = match read(rt, file) {
@@ -70,9 +70,16 @@ fn report_files(rt: &HostRuntime, options: &Options<'_>) -> io::Result<u8> {
             }
         }
     }
-    printer.put_around(form, &FOOT)?;
+    printer.put_around(form, &FOOT);
     printer.flush()?;
-    Ok(status)
+    match printer.finish() {
+        Ok(_) => Ok(status),
+        Err(stop) => {
+            let why = stop.why();
+            let _ = eprintln!(rt; "x509_report: {why}");
+            Ok(STOPPED)
+        }
+    }
 }
 
 fn main(rt: HostRuntime) -> ExitCode {

@@ -1,11 +1,12 @@
 //! Where lines are written.
 
-ghost use Rattle.std.specs.Prelude.{◌≡◌, ℕ, List, ◌∷◌, [], IfOk, None, OnErr, OnOk, is_some, string_bytes, true};
+ghost use Rattle.std.specs.Prelude.{◌≡◌, ℕ, List, ◌∷◌, [], IfOk, None, OnErr, OnOk, is_some, map, string_bytes, true};
+ghost use Rattle.std.specs.Io.KnownBytes.{Keeps};
 ghost use Rattle.std.specs.Str.{IsUtf8};
 ghost use Rattle.json.specs.Lex.{tokens};
 ghost use Rattle.x509_report_lines.specs.Kept.{kept};
 ghost use Rattle.x509_report_lines.specs.Lines.{text_of};
-ghost use Rattle.x509_report.specs.Texts.{article_page, begun, line_text, object_lines};
+ghost use Rattle.x509_report.specs.Texts.{around, article_page, begun, line_text, object_lines};
 ghost use Rattle.x509_report.specs.Told.{Holds, Prints, alone, halted, outcome};
 
 use crate::options::Form;
@@ -196,25 +197,35 @@ impl<W: Write> Printer<W> {
         self.taken &= taken;
     }
 
-    /// Writes pieces that stand around the objects of a page, where a page is written and it hasn't stopped.
-    ///
-    /// # Errors
-    ///
-    /// That of a write.
-    pub fn put_around(&mut self, form: Form, pieces: &[&str]) -> io::Result<()>
-        ensures same { (self.new.taken ≡ self.old.taken) × (self.new.stopped ≡ self.old.stopped) }
-        ensures still { is_some self.old.stopped ≡ true → self.new ≡ self.old }
+    /// Writes pieces, one behind another.
+    fn write_each(&mut self, pieces: &[&str])
+        ensures { Prints self.old self.new (alone (map (λ piece. piece.now) pieces.now)) }
     {
-        if form == Form::Html && !self.has_stopped() {
-            for piece in pieces {
-                self.out.write_all(piece.as_bytes())?;
-            }
+        for piece in pieces {
+            self.write(piece.as_bytes());
         }
-        Ok(())
+    }
+
+    /// Writes pieces that stand around the objects of a page, where a page is written.
+    #[tactic(auto, using(crate::proofs::Prints::printing))]
+    pub fn put_around(&mut self, form: Form, pieces: &[&str])
+        ensures { Prints self.old self.new (alone (around form (map (λ piece. piece.now) pieces.now))) }
+    {
+        match form {
+            Form::Html => self.write_each(pieces),
+            Form::Json | Form::Text => {}
+        }
     }
 
     /// Writes what is held back.
-    pub fn flush(&mut self) -> io::Result<()> {
+    ///
+    /// # Errors
+    ///
+    /// That of the write.
+    pub fn flush(&mut self) -> io::Result<()>
+        ensures same { (self.new.taken ≡ self.old.taken) × (self.new.stopped ≡ self.old.stopped) }
+        ensures kept { Keeps self.old.written self.new.written }
+    {
         self.out.flush()
     }
 }
