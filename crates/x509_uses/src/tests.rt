@@ -3,6 +3,8 @@
 use super::*;
 use std::fmt::Debug;
 use std::process::Abort;
+use x509_parser::parse_x509_crl;
+use x509_parser::revocation_list::CertificateRevocationList;
 
 mod accesses;
 mod elements;
@@ -32,7 +34,14 @@ pub(crate) fn made<'e, T: Drop + 'e, E: Debug + Drop>(rt: &impl Ends, made: Resu
     kept(rt, made.expect(rt, "a value"))
 }
 
-/// It, and behind it a certificate with the serial 2 and two more bytes.
+/// The list in the bytes, with nothing behind it.
+pub(crate) fn list_in<'a>(rt: &impl Ends, bytes: &'a [u8]) -> &'a CertificateRevocationList<'a> {
+    let (rest, list) = made(rt, parse_x509_crl(rt.alloc(), bytes));
+    assert!(rt; rest.is_empty());
+    list
+}
+
+/// The certificate, and behind it one with the serial 2 and two more bytes.
 fn chain(rt: &impl Ends) -> &'static [u8] {
     let mut bytes = Vec::new(rt.alloc());
     for part in [

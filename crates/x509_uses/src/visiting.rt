@@ -22,7 +22,7 @@ impl X509CertificateVisitor for Quiet {}
 impl CertificateRevocationListVisitor for Quiet {}
 
 /// Leads it over a certificate: no visit is refused, and it stays as it was.
-pub fn walk_quietly(quiet: &mut Quiet, certificate: &X509Certificate<'_>) -> Result<(), X509Error>
+pub fn walk_quietly(certificate: &X509Certificate<'_>, quiet: &mut Quiet) -> Result<(), X509Error>
     ensures answer { result ≡ Ok tt }
     ensures same { quiet.new ≡ quiet.old }
 {
@@ -31,8 +31,8 @@ pub fn walk_quietly(quiet: &mut Quiet, certificate: &X509Certificate<'_>) -> Res
 
 /// Leads it over a list, with the same promise.
 pub fn walk_list_quietly(
-    quiet: &mut Quiet,
     list: &CertificateRevocationList<'_>,
+    quiet: &mut Quiet,
 ) -> Result<(), X509Error>
     ensures answer { result ≡ Ok tt }
     ensures same { quiet.new ≡ quiet.old }

@@ -1,6 +1,6 @@
 //! Indexes of lists, beside the plain scan.
 
-use crate::tests::{Ends, made};
+use crate::tests::{Ends, list_in, made};
 use x509_parser::der::UnsignedBytes;
 use x509_parser::error::X509Error;
 use x509_parser::parse_x509_crl;
@@ -46,17 +46,11 @@ fn octets_of(rt: &impl Ends, serials: &[&[u8]]) -> &'static [u8] {
 
 /// The list with entries of these serials.
 fn list_of(rt: &impl Ends, serials: &[&[u8]]) -> &'static CertificateRevocationList<'static> {
-    read(rt, octets_of(rt, serials))
-}
-
-/// The list in these octets.
-fn read<'a>(rt: &impl Ends, octets: &'a [u8]) -> &'a CertificateRevocationList<'a> {
-    let (_, list) = made(rt, parse_x509_crl(rt.alloc(), octets));
-    list
+    list_in(rt, octets_of(rt, serials))
 }
 
 /// Its index.
-fn index_of<'a>(rt: &impl Ends, list: &CertificateRevocationList<'a>) -> &'a RevocationIndex<'a> {
+fn index_of<'a>(list: &CertificateRevocationList<'a>, rt: &impl Ends) -> &'a RevocationIndex<'a> {
     made(rt, RevocationIndex::build(&list.tbs_cert_list))
 }
 
@@ -64,7 +58,7 @@ fn index_of<'a>(rt: &impl Ends, list: &CertificateRevocationList<'a>) -> &'a Rev
 fn found(rt: HostRuntime) {
     let serials: [&[u8]; 4] = [b"\x2A", b"\x07", b"\x00\x2A", b"\x00"];
     let list = list_of(&rt, &serials);
-    let index = index_of(&rt, list);
+    let index = index_of(list, &rt);
     assert!(rt; index.len() == 4);
     let asked: [(&[u8], Option<usize>); 6] = [
         (b"\x2A", Some(0)),
@@ -89,29 +83,34 @@ fn the_first_of_equal_serials(rt: HostRuntime) {
     // 255, whatever the sign
     let list = list_of(&rt, &[b"\xFF", b"\x00\xFF"]);
     let serial = UnsignedBytes::new(b"\xFF");
-    assert!(rt; index_of(&rt, list).find(&serial) == Some(0));
+    assert!(rt; index_of(list, &rt).find(&serial) == Some(0));
     assert!(rt; list.tbs_cert_list.find_revoked(&serial) == Some(0));
 }
 
 #[test]
 fn of_one_and_of_none(rt: HostRuntime) {
-    let index = index_of(&rt, read(&rt, ONE));
+    let index = index_of(list_in(&rt, ONE), &rt);
     assert!(rt; index.find(&UnsignedBytes::new(b"\x2A")) == Some(0));
     assert!(rt; index.find(&UnsignedBytes::new(b"\x2B")).is_none());
-    let index = index_of(&rt, read(&rt, NONE));
+    let index = index_of(list_in(&rt, NONE), &rt);
     assert!(rt; index.is_empty());
     let (answer, compared) = index.find_counted(&UnsignedBytes::new(b"\x01"));
     assert!(rt; answer.is_none() && compared <= 1);
+}
+
+/// That there is an index of the list, which revokes serial 42, or that memory is wanting.
+fn expect_index_or_want(list: &CertificateRevocationList<'_>, rt: &impl Ends) {
+    match RevocationIndex::build(&list.tbs_cert_list) {
+        Ok(index) => assert!(rt; index.find(&UnsignedBytes::new(b"\x2A")) == Some(0)),
+        Err(e) => assert!(rt; e == X509Error::OutOfMemory),
+    }
 }
 
 /// Whatever request for memory is refused, `build` answers the index or that memory is wanting.
 #[test]
 fn memory_refused(rt: HostRuntime) {
     match parse_x509_crl(rt.alloc(), ONE.as_slice()) {
-        Ok((_, list)) => match RevocationIndex::build(&list.tbs_cert_list) {
-            Ok(index) => assert!(rt; index.find(&UnsignedBytes::new(b"\x2A")) == Some(0)),
-            Err(e) => assert!(rt; e == X509Error::OutOfMemory),
-        },
+        Ok((_, list)) => expect_index_or_want(&list, &rt),
         Err(e) => assert!(rt; e.is_out_of_memory()),
     }
 }

@@ -1,6 +1,6 @@
 //! The forms that users write, each once.
 
-use super::{Ends, made};
+use super::{Ends, list_in, made};
 use crate::{
     Next, count_revoked, days_left, days_valid, entry_in_octets, entry_of, fault_in,
     field_at_fault, first_identifier, has_strong_key, hosts, is_another_structure, is_known,
@@ -12,8 +12,8 @@ use x509_parser::der::{Err, FromDer, Stop, Tag, UnsignedBytes};
 use x509_parser::error::X509Error;
 use x509_parser::leniencies::{Leniency, StrictRefusal};
 use x509_parser::objects::oid_registry;
+use x509_parser::parse_x509_certificate;
 use x509_parser::revocation_list::CertificateRevocationList;
-use x509_parser::{parse_x509_certificate, parse_x509_crl};
 
 /// A certificate of two hosts and an address, with a point on a curve of 256 bits, from 1970 to the end of 2049.
 const HOSTS: &[u8] = b"\
@@ -85,8 +85,7 @@ fn expect_entries(list: &CertificateRevocationList<'_>, rt: &impl Ends) {
 
 #[test]
 fn of_a_list(rt: HostRuntime) {
-    let (_, list) = made(&rt, parse_x509_crl(rt.alloc(), LIST));
-    expect_entries(list, &rt);
+    expect_entries(list_in(&rt, LIST), &rt);
     let there = UnsignedBytes::new(b"\xA1");
     let found = made(&rt, entry_in_octets(rt.alloc(), LIST, &there));
     assert!(rt; matches!(found, Some((1, entry)) if entry.raw_serial() == b"\x00\xA1".as_slice()));

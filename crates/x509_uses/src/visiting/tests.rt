@@ -1,7 +1,7 @@
 use super::{Quiet, VisitCount, walk_list_quietly, walk_quietly};
-use crate::tests::made;
+use crate::tests::{list_in, made};
+use x509_parser::parse_x509_certificate;
 use x509_parser::visitor::{WalkCertificate, WalkRevocationList};
-use x509_parser::{parse_x509_certificate, parse_x509_crl};
 
 /// A certificate of the third version with a subject key identifier (RFC 5280, section 4.2.1.2).
 const CERTIFICATE: &[u8] =
@@ -20,7 +20,7 @@ const LIST: &[u8] =
 fn over_a_certificate(rt: HostRuntime) {
     let (_, certificate) = made(&rt, parse_x509_certificate(rt.alloc(), CERTIFICATE));
     let mut quiet = Quiet { state: 7 };
-    assert!(rt; walk_quietly(&mut quiet, certificate) == Ok(()));
+    assert!(rt; walk_quietly(certificate, &mut quiet) == Ok(()));
     assert!(rt; quiet.state == 7);
     let mut visits = VisitCount { count: 0 };
     assert!(rt; certificate.walk(&mut visits) == Ok(()));
@@ -31,9 +31,9 @@ fn over_a_certificate(rt: HostRuntime) {
 
 #[test]
 fn over_a_list(rt: HostRuntime) {
-    let (_, list) = made(&rt, parse_x509_crl(rt.alloc(), LIST));
+    let list = list_in(&rt, LIST);
     let mut quiet = Quiet { state: 7 };
-    assert!(rt; walk_list_quietly(&mut quiet, list) == Ok(()));
+    assert!(rt; walk_list_quietly(list, &mut quiet) == Ok(()));
     assert!(rt; quiet.state == 7);
     let mut visits = VisitCount { count: 0 };
     assert!(rt; list.walk(&mut visits) == Ok(()));
