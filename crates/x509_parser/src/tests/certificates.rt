@@ -1,11 +1,11 @@
 //! Certificates by one call.
 
 use super::fixtures::{
-    BITS, EXTENDED_BYTES, PLAIN_BYTES, SERIAL, certificate_in, joined, kept, replaced, whole,
+    BITS, EXTENDED_BYTES, PLAIN_BYTES, SERIAL, certificate_at, certificate_in, joined, kept,
+    replaced, strict_certificate_at, whole,
 };
 use crate::prelude::*;
 use std::process::Abort;
-use std::test::Fail;
 use x509_der::{Err, Oid, Tries};
 
 #[test]
@@ -30,14 +30,13 @@ fn expect_plain(certificate: &X509Certificate<'_>, rt: &impl Abort) {
 }
 
 #[test]
-fn windows(rt: HostRuntime) -> Result<(), Fail> {
-    let certificate = whole(rt.alloc(), parse_x509_der(rt.alloc(), PLAIN_BYTES))?;
+fn windows(rt: HostRuntime) {
+    let certificate = whole(&rt, parse_x509_der(rt.alloc(), PLAIN_BYTES));
     expect_plain(certificate, &rt);
-    let longer = joined(rt.alloc(), &[PLAIN_BYTES, b"\x05\x00"])?;
-    let (rest, certificate) = kept(rt.alloc(), parse_x509_certificate(rt.alloc(), longer)?)?;
+    let longer = joined(&rt, &[PLAIN_BYTES, b"\x05\x00"]);
+    let (rest, certificate) = certificate_at(&rt, longer);
     assert!(rt; matches!(*rest, [5, 0]));
     expect_plain(certificate, &rt);
-    Ok(())
 }
 
 /// The wrapper of extensions, as it stands; and without a length, of another one, primitive, universal.
@@ -63,15 +62,14 @@ fn expect_extended(certificate: &X509Certificate<'_>, bytes: &[u8; 106], rt: &im
 
 /// It is known by its number alone.
 #[test]
-fn key_identifier(rt: HostRuntime) -> Result<(), Fail> {
+fn key_identifier(rt: HostRuntime) {
     for [identifier, length] in WRAPPERS {
         let mut bytes = *EXTENDED_BYTES;
         bytes[63] = identifier;
         bytes[64] = length;
-        let certificate = whole(rt.alloc(), parse_x509_certificate(rt.alloc(), &bytes))?;
-        expect_extended(certificate, &bytes, &rt);
+        let bytes = kept(&rt, bytes);
+        expect_extended(certificate_in(&rt, bytes), bytes, &rt);
     }
-    Ok(())
 }
 
 const SERIALS: [(&[u8], u32, &[u8]); 4] = [
@@ -83,14 +81,13 @@ const SERIALS: [(&[u8], u32, &[u8]); 4] = [
 ];
 
 #[test]
-fn serials(rt: HostRuntime) -> Result<(), Fail> {
+fn serials(rt: HostRuntime) {
     for (bytes, serial, contents) in SERIALS {
-        let bytes = replaced(rt.alloc(), PLAIN_BYTES, SERIAL, bytes)?;
-        let certificate = certificate_in(rt.alloc(), bytes)?;
+        let bytes = replaced(&rt, PLAIN_BYTES, SERIAL, bytes);
+        let certificate = certificate_in(&rt, bytes);
         assert!(rt; certificate.tbs_certificate.serial.is_u32(serial));
         assert!(rt; certificate.raw_serial() == contents);
     }
-    Ok(())
 }
 
 /// The signature, and what is skipped behind it.
@@ -109,13 +106,12 @@ fn expect_skipped(certificate: &X509Certificate<'_>, bytes: &[u8], rt: &impl Abo
 }
 
 #[test]
-fn bytes_behind_the_signature(rt: HostRuntime) -> Result<(), Fail> {
+fn bytes_behind_the_signature(rt: HostRuntime) {
     for bits in TAILS {
-        let bytes = replaced(rt.alloc(), PLAIN_BYTES, BITS, bits)?;
-        let certificate = certificate_in(rt.alloc(), bytes)?;
+        let bytes = replaced(&rt, PLAIN_BYTES, BITS, bits);
+        let certificate = certificate_in(&rt, bytes);
         expect_skipped(certificate, bytes, &rt);
     }
-    Ok(())
 }
 
 // That it has the extension twice, with the same value.
@@ -132,14 +128,13 @@ fn expect_repeated(certificate: &X509Certificate<'_>, rt: &impl Abort) {
 }
 
 #[test]
-fn repeated_extension(rt: HostRuntime) -> Result<(), Fail> {
+fn repeated_extension(rt: HostRuntime) {
     let one: &[u8] = EXTENDED_BYTES;
     let (front, list): (&[u8], &[u8]) = (b"\x30\x81\x87\x30\x7D", b"\xA3\x40\x30\x3E");
     let parts = [front, &one[4..63], list, &one[67..98], &one[67..106]];
-    let bytes = &*joined(rt.alloc(), &parts)?;
-    let certificate = certificate_in(rt.alloc(), bytes)?;
+    let bytes = &*joined(&rt, &parts);
+    let certificate = certificate_in(&rt, bytes);
     expect_repeated(certificate, &rt);
-    let strict = whole(rt.alloc(), parse_x509_certificate_strict(rt.alloc(), bytes))?;
-    assert!(rt; strict == certificate);
-    Ok(())
+    let (rest, strict) = strict_certificate_at(&rt, bytes);
+    assert!(rt; rest.is_empty() && strict == certificate);
 }

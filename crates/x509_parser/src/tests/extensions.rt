@@ -1,26 +1,28 @@
 //! Extensions and look-ups by identifier.
 
-use super::fixtures::{EXTENDED_BYTES, certificate_in, repeated, sequence, shows, whole};
+use super::fixtures::{EXTENDED_BYTES, Ends, certificate_in, repeated, sequence, shows, whole};
 use crate::prelude::*;
-use std::alloc::Global;
 use std::process::Abort;
-use std::test::Fail;
 use x509_der::{Oid, Tries};
 use x509_extensions::get_extension_unique;
 
+// The extension in these bytes.
+fn extension_in(rt: &impl Ends, bytes: &'static [u8]) -> &'static X509Extension<'static> {
+    whole(rt, X509Extension::from_der(rt.alloc(), bytes))
+}
+
 #[test]
-fn depths(rt: HostRuntime) -> Result<(), Fail> {
+fn depths(rt: HostRuntime) {
     let certificate: &[u8] = EXTENDED_BYTES;
     let bytes = &certificate[67..98];
-    let deep = whole(rt.alloc(), X509Extension::from_der(rt.alloc(), bytes))?;
+    let deep = extension_in(&rt, bytes);
     assert!(rt; !deep.critical);
     assert!(rt;
         matches!(deep.parsed_extension(), ParsedExtension::SubjectKeyIdentifier(id) if id.0 == &bytes[11..])
     );
     let shallow = X509ExtensionParser::new().with_deep_parse_extensions(false);
-    let envelope = whole(rt.alloc(), shallow.parse(rt.alloc(), bytes))?;
+    let envelope = whole(&rt, shallow.parse(rt.alloc(), bytes));
     assert!(rt; matches!(envelope.parsed_extension(), ParsedExtension::Unparsed));
-    Ok(())
 }
 
 const USAGE: &[u8] = b"\x06\x03\x55\x1D\x0F";
@@ -52,42 +54,40 @@ const VALUES: [(&[u8], &[u8], &str); 10] = [
 ];
 
 // Whether an extension's value is this, in a text.
-fn is_value(alloc: Global, value: &ParsedExtension<'_>, text: &str) -> Result<bool, Fail> {
+fn is_value(value: &ParsedExtension<'_>, text: &str, rt: &impl Ends) -> bool {
     match value {
-        ParsedExtension::ParseError { error } => shows(alloc, &format_args!("{error:?}"), text),
-        ParsedExtension::ReasonCode(code) => shows(alloc, code, text),
-        ParsedExtension::InvalidityDate(time) => shows(alloc, &time.timestamp(), text),
-        ParsedExtension::CRLNumber(number) => Ok(number.is_u32(3) && text == "3"),
-        ParsedExtension::NsCertComment(comment) => Ok(*comment == text),
+        ParsedExtension::ParseError { error } => shows(rt, &format_args!("{error:?}"), text),
+        ParsedExtension::ReasonCode(code) => shows(rt, code, text),
+        ParsedExtension::InvalidityDate(time) => shows(rt, &time.timestamp(), text),
+        ParsedExtension::CRLNumber(number) => number.is_u32(3) && text == "3",
+        ParsedExtension::NsCertComment(comment) => *comment == text,
         ParsedExtension::SubjectAlternativeName(names) => match names.general_names.as_slice() {
-            [name] => shows(alloc, name, text),
-            _ => Ok(false),
+            [name] => shows(rt, name, text),
+            _ => false,
         },
-        _ => Ok(false),
+        _ => false,
     }
 }
 
 #[test]
-fn values(rt: HostRuntime) -> Result<(), Fail> {
+fn values(rt: HostRuntime) {
     for (id, value, wanted) in VALUES {
-        let bytes = sequence(rt.alloc(), &[id, value])?;
-        let extension = whole(rt.alloc(), X509Extension::from_der(rt.alloc(), bytes))?;
-        let same = is_value(rt.alloc(), extension.parsed_extension(), wanted)?;
+        let extension = extension_in(&rt, sequence(&rt, &[id, value]));
+        let same = is_value(extension.parsed_extension(), wanted, &rt);
         assert!(rt; same, "at {wanted}");
     }
-    Ok(())
 }
 
 /// An issuing distribution point whose bytes are no fields of its own: in at least four looks at headers and at most eight.
 #[test]
-fn issuing_distribution_point(rt: HostRuntime) -> Result<(), Fail> {
+fn issuing_distribution_point(rt: HostRuntime) {
     let bytes = b"\x30\x0A\x06\x03\x55\x1D\x1C\x04\x03\x30\x01\x05";
     let mut tries = Tries::new();
     let read = X509Extension::read(rt.alloc(), &mut tries, bytes);
-    let extension = whole(rt.alloc(), read)?;
+    let extension = whole(&rt, read);
     assert!(rt; tries.count() >= 4 && tries.count() <= 8);
     let ParsedExtension::IssuingDistributionPoint(point) = extension.parsed_extension() else {
-        return Err(Fail::from("another value"));
+        panic!(rt; "another value");
     };
     assert!(rt; point.distribution_point.is_none() && point.only_some_reasons.is_none());
     assert!(rt;
@@ -96,7 +96,6 @@ fn issuing_distribution_point(rt: HostRuntime) -> Result<(), Fail> {
             || point.indirect_crl
             || point.only_contains_attribute_certs)
     );
-    Ok(())
 }
 
 // That there are no constraints and no usages, but the key's identifier.
@@ -109,8 +108,8 @@ fn expect_identifier(certificate: &X509Certificate<'_>, rt: &impl Abort) {
 }
 
 #[test]
-fn look_ups(rt: HostRuntime) -> Result<(), Fail> {
-    let extensions = repeated(rt.alloc())?.extensions();
+fn look_ups(rt: HostRuntime) {
+    let extensions = repeated(&rt).extensions();
     let twice = Err(X509Error::DuplicateExtensions);
     for (octets, found) in [
         (b"\x2B", Ok(true)),
@@ -121,6 +120,5 @@ fn look_ups(rt: HostRuntime) -> Result<(), Fail> {
         let looked_up = get_extension_unique(extensions, &Oid::new(octets));
         assert!(rt; looked_up.map(|e| e.is_some()) == found);
     }
-    expect_identifier(certificate_in(rt.alloc(), EXTENDED_BYTES)?, &rt);
-    Ok(())
+    expect_identifier(certificate_in(&rt, EXTENDED_BYTES), &rt);
 }

@@ -3,8 +3,13 @@
 use crate::prelude::*;
 use std::alloc::Global;
 use std::fmt::{Debug, Display};
-use std::test::Fail;
+use std::process::Abort;
 use x509_der::Err;
+
+/// What a test is given: memory, and that it ends where something isn't as it should be.
+pub trait Ends: Abort + AllocGlobal {}
+
+impl<R: Abort + AllocGlobal> Ends for R {}
 
 /// A certificate that is empty wherever it may be: 66 bytes.
 pub const PLAIN_BYTES: &[u8; 66] =
@@ -34,83 +39,104 @@ pub const BITS: Place = (63, 66);
 pub const EXTENSIONS: Place = (63, 98);
 
 /// A certificate with other bytes at a place, and with the lengths of its two containers kept right.
-pub fn replaced(
-    alloc: Global,
-    whole: &[u8],
-    place: Place,
-    bytes: &[u8],
-) -> Result<&'static [u8], Fail> {
+pub fn replaced(rt: &impl Ends, whole: &[u8], place: Place, bytes: &[u8]) -> &'static [u8] {
     let (from, to) = place;
     let (Some(front), Some(behind)) = (whole.get(..from), whole.get(to..)) else {
-        return Err(Fail::from("no such place"));
+        panic!(rt; "no such place");
     };
-    let all = joined(alloc, &[front, bytes, behind])?;
-    let length = u8::try_from(all.len())?;
+    let all = joined(rt, &[front, bytes, behind]);
+    let length = u8::try_from(all.len()).expect(rt, "a short length");
     let [_, outer, _, inner, ..] = &mut *all else {
-        return Err(Fail::from("too short"));
+        panic!(rt; "too short");
     };
     *outer = length.wrapping_sub(2);
     if from < usize::from(*inner).saturating_add(4) {
         // an algorithm of five bytes and a signature of three stand behind the signed part
         *inner = length.wrapping_sub(12);
     }
-    Ok(&*all)
+    &*all
 }
 
 /// The bytes of all, one behind the other.
-pub fn joined(alloc: Global, parts: &[&[u8]]) -> Result<&'static mut [u8], Fail> {
-    let mut bytes = Vec::new(alloc);
+pub fn joined(rt: &impl Ends, parts: &[&[u8]]) -> &'static mut [u8] {
+    let mut bytes = Vec::new(rt.alloc());
     for part in parts {
-        bytes.extend_from_slice(*part)?;
+        bytes.extend_from_slice(*part).expect(rt, "memory");
     }
-    Ok(bytes.leak())
+    bytes.leak()
 }
 
 /// A SEQUENCE of these contents.
-pub fn sequence(alloc: Global, parts: &[&[u8]]) -> Result<&'static [u8], Fail> {
-    let contents = joined(alloc, parts)?;
-    let length = u8::try_from(contents.len())?;
-    Ok(&*joined(alloc, &[&[0x30, length], &*contents])?)
+pub fn sequence(rt: &impl Ends, parts: &[&[u8]]) -> &'static [u8] {
+    let contents = joined(rt, parts);
+    let length = u8::try_from(contents.len()).expect(rt, "a short length");
+    &*joined(rt, &[&[0x30, length], &*contents])
 }
 
 /// The value, which is never let go, so that a test owns nothing: whatever it owns at an assertion has to be proved to be
 /// dropped there.
-pub fn kept<'e, T: Drop + 'e>(alloc: Global, value: T) -> Result<&'e T, Fail> {
-    Ok(Box::leak(Box::new(alloc, value)?))
+pub fn kept<'e, T: Drop + 'e>(rt: &impl Ends, value: T) -> &'e T {
+    Box::leak(Box::new(rt.alloc(), value).expect(rt, "memory"))
 }
 
-/// What was read, with nothing behind it.
+/// What was made, or the end of the test.
+pub fn made<'e, T: Drop + 'e, E: Debug + Drop>(rt: &impl Ends, made: Result<T, E>) -> &'e T {
+    kept(rt, made.expect(rt, "a value"))
+}
+
+/// What was read, with nothing behind it, or the end of the test.
 pub fn whole<'e, T: Drop + 'e, E: Debug + Drop>(
-    alloc: Global,
+    rt: &impl Ends,
     read: Result<(&[u8], T), E>,
-) -> Result<&'e T, Fail> {
+) -> &'e T {
     match read {
-        Ok(([], value)) => kept(alloc, value),
-        Ok(_) => Err(Fail::from("bytes behind it")),
-        Err(e) => Err(Fail::from(e)),
+        Ok(([], value)) => kept(rt, value),
+        Ok(_) => panic!(rt; "bytes behind it"),
+        Err(e) => panic!(rt; "refused: {e:?}"),
     }
 }
 
+/// What stands in these bytes, with nothing behind it, or the end of the test.
+pub fn read_in<'a, T: FromDer<'a, X509Error> + Drop + 'a>(
+    rt: &impl Ends,
+    bytes: &'a [u8],
+) -> &'a T {
+    whole(rt, T::from_der(rt.alloc(), bytes))
+}
+
 /// The certificate in these bytes. A test that reads it so holds a reference alone.
-pub fn certificate_in(
-    alloc: Global,
+pub fn certificate_in(rt: &impl Ends, bytes: &'static [u8]) -> &'static X509Certificate<'static> {
+    whole(rt, parse_x509_certificate(rt.alloc(), bytes))
+}
+
+/// The certificate at the front of these bytes, and in front of it what stands behind it.
+pub fn certificate_at(
+    rt: &impl Ends,
     bytes: &'static [u8],
-) -> Result<&'static X509Certificate<'static>, Fail> {
-    whole(alloc, parse_x509_certificate(alloc, bytes))
+) -> &'static (&'static [u8], X509Certificate<'static>) {
+    made(rt, parse_x509_certificate(rt.alloc(), bytes))
+}
+
+/// The same by the strict reader.
+pub fn strict_certificate_at(
+    rt: &impl Ends,
+    bytes: &'static [u8],
+) -> &'static (&'static [u8], X509Certificate<'static>) {
+    made(rt, parse_x509_certificate_strict(rt.alloc(), bytes))
 }
 
 /// The list in these bytes.
 pub fn list_in(
-    alloc: Global,
+    rt: &impl Ends,
     bytes: &'static [u8],
-) -> Result<&'static CertificateRevocationList<'static>, Fail> {
-    whole(alloc, parse_x509_crl(alloc, bytes))
+) -> &'static CertificateRevocationList<'static> {
+    whole(rt, parse_x509_crl(rt.alloc(), bytes))
 }
 
 /// Whether the value is shown so.
-pub fn shows<D: Display>(alloc: Global, value: &D, wanted: &str) -> Result<bool, Fail> {
-    let shown = format!(in alloc; "{value}")?;
-    Ok(shown.as_str() == wanted)
+pub fn shows<D: Display>(rt: &impl Ends, value: &D, wanted: &str) -> bool {
+    let shown = format!(in rt.alloc(); "{value}").expect(rt, "memory");
+    shown.as_str() == wanted
 }
 
 /// Why the bytes are no certificate, and why they are none to the strict reader.
@@ -125,9 +151,6 @@ const REPEATED: &[u8] =
       \x06\x01\x2C\x01\x01\xFF\x04\x00\x30\x08\x06\x01\x2C\x01\x01\xFF\x04\x00";
 
 /// A certificate with the extensions 1.2, 1.3, 1.2, 1.4 and 1.4.
-pub fn repeated(alloc: Global) -> Result<&'static X509Certificate<'static>, Fail> {
-    certificate_in(
-        alloc,
-        replaced(alloc, EXTENDED_BYTES, EXTENSIONS, REPEATED)?,
-    )
+pub fn repeated(rt: &impl Ends) -> &'static X509Certificate<'static> {
+    certificate_in(rt, replaced(rt, EXTENDED_BYTES, EXTENSIONS, REPEATED))
 }

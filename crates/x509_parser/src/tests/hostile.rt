@@ -1,14 +1,13 @@
 //! Bytes that are no certificates, certificates that stand plainly and others, and how many headers are looked at.
 
 use super::fixtures::{
-    ALGORITHM, BITS, EXTENDED_BYTES, EXTENSIONS, KEY, PLAIN_BYTES, Place, SERIAL, VERSION, joined,
-    kept, refusals, replaced,
+    ALGORITHM, BITS, EXTENDED_BYTES, EXTENSIONS, KEY, PLAIN_BYTES, Place, SERIAL, VERSION,
+    certificate_at, joined, refusals, replaced, strict_certificate_at,
 };
 use super::lists::PLAIN_LIST;
 use super::requests::PLAIN_REQUEST;
 use crate::prelude::*;
 use std::alloc::Global;
-use std::test::Fail;
 use x509_der::{BerError, Err, ErrorKind, Tries};
 
 const TAG: X509Error = X509Error::Der(BerError::InvalidTag);
@@ -75,13 +74,12 @@ const UNREADABLE: [(Place, &[u8], X509Error); 7] = [
 ];
 
 #[test]
-fn unreadable_fields(rt: HostRuntime) -> Result<(), Fail> {
+fn unreadable_fields(rt: HostRuntime) {
     for (place, bytes, error) in UNREADABLE {
-        let whole = replaced(rt.alloc(), PLAIN_BYTES, place, bytes)?;
+        let whole = replaced(&rt, PLAIN_BYTES, place, bytes);
         let wanted = [Some(Err::Error(error)); 2];
         assert!(rt; refusals(rt.alloc(), whole) == wanted, "at {bytes:?}");
     }
-    Ok(())
 }
 
 const CRITICAL: &[u8] = b"\xA3\x10\x30\x0E\x30\x0C\x06\x03\x55\x1D\x13\x01\x01\xFF\x04\x02\x30\x00";
@@ -100,20 +98,18 @@ const PLAINLY: [(&[u8], Place, &[u8]); 6] = [
 ];
 
 #[test]
-fn plain(rt: HostRuntime) -> Result<(), Fail> {
+fn plain(rt: HostRuntime) {
     for (sample, place, bytes) in PLAINLY {
-        let whole = replaced(rt.alloc(), sample, place, bytes)?;
+        let whole = replaced(&rt, sample, place, bytes);
         // bytes behind the certificate are none of its own
         for tail in [b"".as_slice(), b"\x05\x00"] {
-            let longer = &*joined(rt.alloc(), &[whole, tail])?;
-            let loose = kept(rt.alloc(), parse_x509_certificate(rt.alloc(), longer)?)?;
-            let strict = parse_x509_certificate_strict(rt.alloc(), longer)?;
-            let strict = kept(rt.alloc(), strict)?;
+            let longer = &*joined(&rt, &[whole, tail]);
+            let loose = certificate_at(&rt, longer);
+            let strict = strict_certificate_at(&rt, longer);
             assert!(rt; strict.1 == loose.1 && strict.0 == loose.0, "at {bytes:?}");
             assert!(rt; strict.0 == tail);
         }
     }
-    Ok(())
 }
 
 const BY_BASIC_RULES: &[u8] =
@@ -143,13 +139,12 @@ const LOOSELY: [(&[u8], Place, &[u8]); 10] = [
 ];
 
 #[test]
-fn loose(rt: HostRuntime) -> Result<(), Fail> {
+fn loose(rt: HostRuntime) {
     for (sample, place, bytes) in LOOSELY {
-        let whole = replaced(rt.alloc(), sample, place, bytes)?;
+        let whole = replaced(&rt, sample, place, bytes);
         let wanted = [None, Some(Err::Error(X509Error::Generic))];
         assert!(rt; refusals(rt.alloc(), whole) == wanted, "at {bytes:?}");
     }
-    Ok(())
 }
 
 // How many headers a reader looks at, whatever it answers.

@@ -1,22 +1,21 @@
 //! Keys, their parameters and kinds of signatures.
 
-use super::fixtures::{kept, whole};
+use super::fixtures::{Ends, made, whole};
 use crate::prelude::*;
 use crate::public_key::{ECPoint, RSAPublicKey};
 use crate::signature_algorithm::{RsaSsaPssParams, SignatureAlgorithm};
 use std::alloc::Global;
-use std::test::Fail;
-use x509_der::{Any, BerError, Err, Oid, Tries, read_any};
+use x509_der::{Any, BerError, Oid, Tries, read_any};
 
-fn any(bytes: &[u8]) -> Result<Any<'_>, Err<BerError>> {
-    let (_, any) = read_any(&mut Tries::new(), bytes)?;
-    Ok(any)
+fn any<'a>(rt: &impl Ends, bytes: &'a [u8]) -> Any<'a> {
+    let (_, any) = read_any(&mut Tries::new(), bytes).expect(rt, "an element");
+    any
 }
 
 #[test]
-fn rsa_keys(rt: HostRuntime) -> Result<(), Fail> {
+fn rsa_keys(rt: HostRuntime) {
     let bytes: &[u8] = b"\x30\x08\x02\x03\x00\xC5\x01\x02\x01\x03";
-    let key = whole(rt.alloc(), RSAPublicKey::from_der(rt.alloc(), bytes))?;
+    let key = whole(&rt, RSAPublicKey::from_der(rt.alloc(), bytes));
     assert!(rt; key.modulus == b"\x00\xC5\x01".as_slice());
     assert!(rt; key.try_exponent() == Ok(3));
     assert!(rt; key.key_size() == 16);
@@ -41,7 +40,6 @@ fn rsa_keys(rt: HostRuntime) -> Result<(), Fail> {
     bytes[0] = 0x04;
     let size = ECPoint::from(bytes.as_slice()).key_size();
     assert!(rt; size == 256);
-    Ok(())
 }
 
 /// Parameters of RSASSA-PSS, and the length of the salt.
@@ -55,21 +53,20 @@ const NO_PARAMETERS: [(&[u8], BerError); 3] = [
 ];
 
 #[test]
-fn pss_parameters(rt: HostRuntime) -> Result<(), Fail> {
+fn pss_parameters(rt: HostRuntime) {
     for (bytes, salt) in PARAMETERS {
-        let found = kept(rt.alloc(), RsaSsaPssParams::try_from(any(bytes)?)?)?;
+        let found = made(&rt, RsaSsaPssParams::try_from(any(&rt, bytes)));
         assert!(rt; found.salt_length() == salt);
         assert!(rt; found.trailer_field() == 1);
         assert!(rt; found.hash_algorithm_oid().as_bytes() == OID_HASH_SHA1);
-        let mask = kept(rt.alloc(), found.mask_gen_algorithm()?)?;
+        let mask = made(&rt, found.mask_gen_algorithm());
         assert!(rt; mask.mgf == Oid::new(b"\x2A\x86\x48\x86\xF7\x0D\x01\x01\x08"));
         assert!(rt; mask.hash.as_bytes() == OID_HASH_SHA1);
     }
     for (bytes, error) in NO_PARAMETERS {
-        let read = RsaSsaPssParams::try_from(any(bytes)?);
+        let read = RsaSsaPssParams::try_from(any(&rt, bytes));
         assert!(rt; read.err() == Some(X509Error::Der(error)), "at {bytes:?}");
     }
-    Ok(())
 }
 
 // The kind of a signature, in a word.
@@ -85,12 +82,11 @@ fn kind(alloc: Global, octets: &[u8], parameters: Option<Any<'_>>) -> &'static s
 }
 
 #[test]
-fn kinds_of_signatures(rt: HostRuntime) -> Result<(), Fail> {
+fn kinds_of_signatures(rt: HostRuntime) {
     let oaep = b"\x2A\x86\x48\x86\xF7\x0D\x01\x01\x07";
-    let none = Some(any(b"\x30\x00")?);
+    let none = Some(any(&rt, b"\x30\x00"));
     assert!(rt; kind(rt.alloc(), oaep, none) == "RSAES-OAEP");
     assert!(rt; kind(rt.alloc(), oaep, None) == "invalid");
     assert!(rt; kind(rt.alloc(), OID_PKCS1_SHA256WITHRSA, None) == "RSA");
     assert!(rt; kind(rt.alloc(), b"\x2A\x03", None) == "invalid");
-    Ok(())
 }

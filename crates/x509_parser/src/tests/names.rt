@@ -1,9 +1,8 @@
 //! Names, identifiers and the registry.
 
-use super::fixtures::{kept, shows, whole};
+use super::fixtures::{Ends, made, shows, whole};
 use crate::prelude::*;
-use std::alloc::Global;
-use std::test::Fail;
+use std::alloc::{AllocError, Global};
 use x509_der::{Any, Oid, Tag};
 
 const COMMON: &[u8] = b"\x30\x0D\x31\x0B\x30\x09\x06\x03\x55\x04\x03\x0C\x02ab";
@@ -20,25 +19,26 @@ const NAMES: [(&[u8], &str, usize); 4] = [
 ];
 
 // Whether the name is shown so, with the registry of all identifiers too.
-fn is_shown(alloc: Global, name: &X509Name<'static>, text: &str) -> Result<bool, Fail> {
-    let registry = kept(alloc, oid_registry(alloc)?)?;
-    let registered = kept(alloc, name.to_string_with_registry(alloc, registry)?)?;
-    Ok(registered.as_str() == text && shows(alloc, name, text)?)
+fn is_shown(name: &X509Name<'static>, text: &str, rt: &impl Ends) -> bool {
+    let registry = made(rt, oid_registry(rt.alloc()));
+    let registered = name
+        .to_string_with_registry(rt.alloc(), registry)
+        .expect(rt, "a text");
+    registered.as_str() == text && shows(rt, name, text)
 }
 
 #[test]
-fn names_as_text(rt: HostRuntime) -> Result<(), Fail> {
+fn names_as_text(rt: HostRuntime) {
     for (bytes, text, window) in NAMES {
-        let name = whole(rt.alloc(), X509Name::from_der(rt.alloc(), bytes))?;
+        let name = whole(&rt, X509Name::from_der(rt.alloc(), bytes));
         assert!(rt; bytes.starts_with(name.as_raw()));
         assert!(rt; name.as_raw().len() == window);
-        assert!(rt; is_shown(rt.alloc(), name, text)?, "at {text}");
+        assert!(rt; is_shown(name, text, &rt), "at {text}");
     }
-    Ok(())
 }
 
 // A name of a country, a state, a company and two common names.
-fn built(alloc: Global) -> Result<X509Name<'static>, Fail> {
+fn built(alloc: Global) -> Result<X509Name<'static>, AllocError> {
     let mut names = Vec::new(alloc);
     for (oid, text) in [
         (OID_X509_COUNTRY_NAME, b"FR".as_slice()),
@@ -61,11 +61,10 @@ fn built(alloc: Global) -> Result<X509Name<'static>, Fail> {
 }
 
 #[test]
-fn a_name_that_is_built(rt: HostRuntime) -> Result<(), Fail> {
-    let name = kept(rt.alloc(), built(rt.alloc())?)?;
+fn a_name_that_is_built(rt: HostRuntime) {
+    let name = made(&rt, built(rt.alloc()));
     let wanted = "C=FR, ST=Some-State, O=Internet Widgits Pty Ltd, CN=Test1 + CN=Test2";
-    assert!(rt; is_shown(rt.alloc(), name, wanted)?);
-    Ok(())
+    assert!(rt; is_shown(name, wanted, &rt));
 }
 
 const WIDEST: &[u8] = b"\x2A\x81\xFF\xFF\xFF\xFF\xFF\xFF\xFF\xFF\x7F";
@@ -86,16 +85,15 @@ const IDENTIFIERS: [(&[u8], &str); 9] = [
 ];
 
 #[test]
-fn identifiers_as_text(rt: HostRuntime) -> Result<(), Fail> {
+fn identifiers_as_text(rt: HostRuntime) {
     for (octets, text) in IDENTIFIERS {
-        assert!(rt; shows(rt.alloc(), &Oid::new(octets), text)?, "at {text}");
+        assert!(rt; shows(&rt, &Oid::new(octets), text), "at {text}");
     }
-    Ok(())
 }
 
 #[test]
-fn words_of_identifiers(rt: HostRuntime) -> Result<(), Fail> {
-    let registry = kept(rt.alloc(), oid_registry(rt.alloc())?)?;
+fn words_of_identifiers(rt: HostRuntime) {
+    let registry = made(&rt, oid_registry(rt.alloc()));
     let common = Oid::new(b"\x55\x04\x03");
     assert!(rt; oid2sn(&common, registry) == Ok("commonName"));
     assert!(rt; oid2abbrev(&common, registry) == Ok("CN"));
@@ -107,21 +105,18 @@ fn words_of_identifiers(rt: HostRuntime) -> Result<(), Fail> {
     assert!(rt; words == Ok("Mask Generator Function 1 (MGF1)"));
     let unknown = Oid::new(b"\x2A\x03");
     assert!(rt; oid2abbrev(&unknown, registry) == Err(NidError));
-    Ok(())
 }
 
 /// Key information whose length stands in more octets than it needs (X.690, 10.1); versions as text; serials as text.
 #[test]
-fn fields(rt: HostRuntime) -> Result<(), Fail> {
+fn fields(rt: HostRuntime) {
     let bytes = b"\x30\x81\x08\x30\x03\x06\x01\x2A\x03\x01\x00";
     let read = SubjectPublicKeyInfo::from_der(rt.alloc(), bytes);
     assert!(rt; matches!(read.err(), Some(e) if e.word() == "invalid length"));
     for (version, text) in [(2, "V3"), (5, "X509Version(5 / 0x5)")] {
-        let shown = shows(rt.alloc(), &X509Version(version), text)?;
+        let shown = shows(&rt, &X509Version(version), text);
         assert!(rt; shown, "at {text}");
     }
-    let serial = format_serial(rt.alloc(), b"\x01\x02\x03\x04\xFF")?;
-    let serial = kept(rt.alloc(), serial)?;
+    let serial = made(&rt, format_serial(rt.alloc(), b"\x01\x02\x03\x04\xFF"));
     assert!(rt; serial.as_str() == "01:02:03:04:ff");
-    Ok(())
 }

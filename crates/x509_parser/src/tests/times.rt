@@ -1,9 +1,7 @@
 //! Times and validity.
 
-use super::fixtures::{kept, shows};
+use super::fixtures::{Ends, made, shows};
 use crate::prelude::*;
-use std::alloc::Global;
-use std::test::Fail;
 use x509_der::Err;
 
 /// The last second of 2049.
@@ -35,27 +33,26 @@ const TEXTS: [(&[u8], &str); 8] = [
 ];
 
 // The time that these bytes are.
-fn time_of(alloc: Global, bytes: &[u8]) -> Result<ASN1Time, Fail> {
-    match ASN1Time::from_der(alloc, bytes) {
-        Ok(([], time)) => Ok(time),
-        Ok(_) => Err(Fail::from("bytes behind the time")),
-        Err(e) => Err(e.into()),
+fn time_of(rt: &impl Ends, bytes: &[u8]) -> ASN1Time {
+    match ASN1Time::from_der(rt.alloc(), bytes) {
+        Ok(([], time)) => time,
+        Ok(_) => panic!(rt; "bytes behind the time"),
+        Err(e) => panic!(rt; "refused: {e:?}"),
     }
 }
 
 #[test]
-fn times(rt: HostRuntime) -> Result<(), Fail> {
+fn times(rt: HostRuntime) {
     for (bytes, seconds) in TIMES {
-        assert!(rt; time_of(rt.alloc(), bytes)?.timestamp() == seconds);
+        assert!(rt; time_of(&rt, bytes).timestamp() == seconds);
     }
     for (bytes, text) in TEXTS {
-        let time = time_of(rt.alloc(), bytes)?;
-        assert!(rt; shows(rt.alloc(), &time, text)?, "at {text}");
+        let time = time_of(&rt, bytes);
+        assert!(rt; shows(&rt, &time, text), "at {text}");
     }
-    let first = time_of(rt.alloc(), b"\x17\x0D700101000000Z")?;
-    let message = kept(rt.alloc(), first.to_rfc2822(rt.alloc())?)?;
+    let first = time_of(&rt, b"\x17\x0D700101000000Z");
+    let message = made(&rt, first.to_rfc2822(rt.alloc()));
     assert!(rt; message.as_str() == "Thu, 1 Jan 1970 00:00:00 +0000");
-    Ok(())
 }
 
 const NO_TIMES: [&[u8]; 4] = [
@@ -94,17 +91,17 @@ const MOMENTS: [(i64, bool, Option<i64>); 5] = [
 ];
 
 // The validity that these bytes are.
-fn validity_of(alloc: Global, bytes: &[u8]) -> Result<Validity, Fail> {
-    match Validity::from_der(alloc, bytes) {
-        Ok((_, validity)) => Ok(validity),
-        Err(e) => Err(e.into()),
+fn validity_of(rt: &impl Ends, bytes: &[u8]) -> Validity {
+    match Validity::from_der(rt.alloc(), bytes) {
+        Ok((_, validity)) => validity,
+        Err(e) => panic!(rt; "refused: {e:?}"),
     }
 }
 
 #[test]
-fn validity(rt: HostRuntime) -> Result<(), Fail> {
+fn validity(rt: HostRuntime) {
     let bytes = b"\x30\x1E\x17\x0D700101000000Z\x17\x0D491231235959Z";
-    let validity = validity_of(rt.alloc(), bytes)?;
+    let validity = validity_of(&rt, bytes);
     for (seconds, valid, left) in MOMENTS {
         let mut clock = Stopped(seconds);
         assert!(rt; validity.is_valid(&mut clock) == valid);
@@ -113,7 +110,6 @@ fn validity(rt: HostRuntime) -> Result<(), Fail> {
     }
     // both ends, as a GeneralizedTime
     for bytes in [b"\x18\x0F19700101000000Z", b"\x18\x0F20491231235959Z"] {
-        assert!(rt; validity.is_valid_at(time_of(rt.alloc(), bytes)?));
+        assert!(rt; validity.is_valid_at(time_of(&rt, bytes)));
     }
-    Ok(())
 }

@@ -1,11 +1,10 @@
 //! Validators, loggers and walks over certificates and lists.
 
-use super::fixtures::{self, EXTENDED_BYTES, PLAIN_BYTES, certificate_in, list_in};
+use super::fixtures::{self, EXTENDED_BYTES, Ends, PLAIN_BYTES, certificate_in, list_in};
 use super::lists::PLAIN_LIST;
 use crate::prelude::*;
 use crate::visitor::{CertificateRevocationListVisitor, X509CertificateVisitor};
-use std::alloc::{AllocError, Global};
-use std::test::Fail;
+use std::alloc::Global;
 use x509_validators::validate_to_vec;
 
 const UNVERSIONED: &[u8; 101] =
@@ -40,37 +39,37 @@ fn says(report: Report, sound: bool, warnings: &[&str], errors: &[&str]) -> bool
 }
 
 #[test]
-fn certificates(rt: HostRuntime) -> Result<(), Fail> {
+fn certificates(rt: HostRuntime) {
     let warnings = ["Unknown public key type"];
     for (bytes, errors) in CERTIFICATES {
-        let certificate = certificate_in(rt.alloc(), bytes)?;
-        let report = certificate.validate_to_vec(rt.alloc())?;
+        let certificate = certificate_in(&rt, bytes);
+        let report = certificate
+            .validate_to_vec(rt.alloc())
+            .expect(&rt, "memory");
         let told = says(report, errors.is_empty(), &warnings, errors);
         assert!(rt; told, "at {errors:?}");
     }
-    Ok(())
 }
 
 // What a validator of lists says of these members.
 fn report_by<'a, T, V: Validator<'a, Item = &'a [T]>>(
-    alloc: Global,
+    rt: &impl Ends,
     validator: &V,
     members: &'a [T],
-) -> Result<Report, AllocError> {
-    validate_to_vec(alloc, validator, &members)
+) -> Report {
+    validate_to_vec(rt.alloc(), validator, &members).expect(rt, "memory")
 }
 
 /// Both validators of a chain run, whatever the first one answers.
 #[test]
-fn repeated_extensions(rt: HostRuntime) -> Result<(), Fail> {
-    let extensions = fixtures::repeated(rt.alloc())?.extensions();
+fn repeated_extensions(rt: HostRuntime) {
+    let extensions = fixtures::repeated(&rt).extensions();
     let (first, second) = ("Duplicate extension 1.2", "Duplicate extension 1.4");
-    let report = report_by(rt.alloc(), &X509ExtensionsValidator, extensions)?;
+    let report = report_by(&rt, &X509ExtensionsValidator, extensions);
     assert!(rt; says(report, false, &[], &[first, second]));
     let both = chain(X509ExtensionsValidator, X509ExtensionsValidator);
-    let report = report_by(rt.alloc(), &both, extensions)?;
+    let report = report_by(&rt, &both, extensions);
     assert!(rt; says(report, false, &[], &[first, second, first, second]));
-    Ok(())
 }
 
 /// A logger whose second error is refused: nothing is told behind it.
@@ -102,12 +101,11 @@ fn write_two(bytes: &mut Vec<u8>) -> Result<(), X509Error> {
 }
 
 #[test]
-fn lines_of_a_writer(rt: HostRuntime) -> Result<(), Fail> {
+fn lines_of_a_writer(rt: HostRuntime) {
     let mut bytes = Vec::new(rt.alloc());
-    write_two(&mut bytes)?;
+    write_two(&mut bytes).expect(&rt, "two lines");
     let lines: &[u8] = b"[W] a is odd\n[E] b is even\n";
     assert!(rt; bytes.as_slice() == lines);
-    Ok(())
 }
 
 /// Warns of numbers above ten.
@@ -137,28 +135,29 @@ impl<'a> Validator<'a> for SmallNumbers {
 
 // Whether the validator warns of the number so, tells no error and finds it sound.
 fn warns<'a, V: Validator<'a, Item = u32>>(
-    alloc: Global,
+    rt: &impl Ends,
     validator: &V,
     number: u32,
     warnings: &[&str],
-) -> Result<bool, X509Error> {
-    let mut logger = VecLogger::new(alloc);
-    let sound = validator.validate(alloc, &number, &mut logger)?;
-    Ok(sound && are(logger.warnings(), warnings) && logger.errors().is_empty())
+) -> bool {
+    let mut logger = VecLogger::new(rt.alloc());
+    let sound = validator
+        .validate(rt.alloc(), &number, &mut logger)
+        .expect(rt, "an answer");
+    sound && are(logger.warnings(), warnings) && logger.errors().is_empty()
 }
 
 #[test]
-fn small_numbers(rt: HostRuntime) -> Result<(), Fail> {
+fn small_numbers(rt: HostRuntime) {
     let text = "a is greater than 10";
     let both = chain(SmallNumbers, SmallNumbers);
     for (number, once, twice) in [
         (1, [].as_slice(), [].as_slice()),
         (20, &[text], &[text, text]),
     ] {
-        assert!(rt; warns(rt.alloc(), &SmallNumbers, number, once)?);
-        assert!(rt; warns(rt.alloc(), &both, number, twice)?);
+        assert!(rt; warns(&rt, &SmallNumbers, number, once));
+        assert!(rt; warns(&rt, &both, number, twice));
     }
-    Ok(())
 }
 
 /// Keeps the key's identifier, counts the extensions and the issuers, and may refuse an extension.
@@ -200,11 +199,11 @@ impl X509CertificateVisitor for Keys {
 }
 
 #[test]
-fn walked_certificates(rt: HostRuntime) -> Result<(), Fail> {
+fn walked_certificates(rt: HostRuntime) {
     let bytes: &[u8] = EXTENDED_BYTES;
-    let certificate = certificate_in(rt.alloc(), bytes)?;
+    let certificate = certificate_in(&rt, bytes);
     let mut keys = Keys::default();
-    keys.walk(certificate)?;
+    keys.walk(certificate).expect(&rt, "an answer");
     assert!(rt; (keys.issuers, keys.extensions) == (1, 1));
     assert!(rt; keys.identifier.as_slice() == &bytes[78..98]);
     // a visit that is refused is the last one
@@ -213,7 +212,6 @@ fn walked_certificates(rt: HostRuntime) -> Result<(), Fail> {
     assert!(rt; refusing.walk(certificate) == Err(X509Error::Generic));
     assert!(rt; (refusing.issuers, refusing.extensions) == (1, 1));
     assert!(rt; refusing.identifier == [0; 20]);
-    Ok(())
 }
 
 /// Counts the dates of a list.
@@ -233,9 +231,9 @@ impl CertificateRevocationListVisitor for Dates {
 }
 
 #[test]
-fn walked_lists(rt: HostRuntime) -> Result<(), Fail> {
+fn walked_lists(rt: HostRuntime) {
     let mut dates = Dates(0);
-    dates.walk(list_in(rt.alloc(), PLAIN_LIST)?)?;
+    let list = list_in(&rt, PLAIN_LIST);
+    dates.walk(list).expect(&rt, "an answer");
     assert!(rt; dates.0 == 1);
-    Ok(())
 }
