@@ -48,35 +48,30 @@ fn flag<'a>(alloc: Global, name: &'a str, help: &'a str) -> Arg<'a> {
 }
 
 fn command<'a>(alloc: Global) -> Result<Command<'a>, AllocError> {
-    let text = flag(alloc, "text", "Lines for people, the default");
-    let json = flag(alloc, "json", "One line of JSON an object");
-    let strict = flag(alloc, "strict", "Refuse what a lenient rule was needed for");
-    let entries = flag(alloc, "entries", "A line for each entry of a list");
-    let dump = flag(alloc, "dump", "The elements of each object, for people");
-    let html = flag(alloc, "html", "A page for a browser, with the elements");
-    let no_digest = flag(alloc, "no-digest", "Leave SHA-256 fingerprints out");
-    let kind = Arg::new(alloc, "kind")
-        .long("kind")
-        .action(ArgAction::Set)
-        .value_parser(KINDS.as_slice())
-        .default_value("any")
-        .help("What the objects are");
-    let file = Arg::new(alloc, "FILE")
-        .action(ArgAction::Append)
-        .num_args(0..)
-        .help("Files of PEM or DER; none or -: standard input");
     Command::new(alloc, "x509_report")
         .version("1")
         .about("Everything that certificates, lists of revoked ones and requests say")
-        .arg(text)?
-        .arg(json)?
-        .arg(strict)?
-        .arg(entries)?
-        .arg(dump)?
-        .arg(html)?
-        .arg(no_digest)?
-        .arg(kind)?
-        .arg(file)
+        .arg(flag(alloc, "text", "Lines for people, the default"))?
+        .arg(flag(alloc, "json", "One line of JSON an object"))?
+        .arg(flag(alloc, "strict", "Refuse what a lenient rule was needed for"))?
+        .arg(flag(alloc, "entries", "A line for each entry of a list"))?
+        .arg(flag(alloc, "dump", "The elements of each object, for people"))?
+        .arg(flag(alloc, "html", "A page for a browser, with the elements"))?
+        .arg(flag(alloc, "no-digest", "Leave SHA-256 fingerprints out"))?
+        .arg(
+            Arg::new(alloc, "kind")
+                .long("kind")
+                .action(ArgAction::Set)
+                .value_parser(KINDS.as_slice())
+                .default_value("any")
+                .help("What the objects are"),
+        )?
+        .arg(
+            Arg::new(alloc, "FILE")
+                .action(ArgAction::Append)
+                .num_args(0..)
+                .help("Files of PEM or DER; none or -: standard input"),
+        )
 }
 
 fn files_of<'a>(alloc: Global, matches: &ArgMatches<'a>) -> Result<Vec<&'a str>, AllocError> {

@@ -17,32 +17,36 @@ pub struct Options<'a> {
 }
 
 fn command<'a>(alloc: Global) -> Result<Command<'a>, AllocError> {
-    let issuer = Arg::new(alloc, "issuer")
-        .long("issuer")
-        .value_name("NAME")
-        .action(ArgAction::Set)
-        .help("Only certificates of this issuer, by the text of its name");
-    let index = Arg::new(alloc, "index")
-        .long("index")
-        .value_name("FILE")
-        .action(ArgAction::Set)
-        .help("The file in which the index is kept; made where it isn't there");
-    let list = Arg::new(alloc, "LIST")
-        .required(true)
-        .action(ArgAction::Set)
-        .help("The list of revoked certificates, in DER");
-    let serials = Arg::new(alloc, "SERIAL")
-        .required(true)
-        .action(ArgAction::Append)
-        .num_args(1..)
-        .help("Serials in hex, with colons or without; -: one a line from standard input");
     Command::new(alloc, "x509_revoked")
         .version("1")
         .about("Whether a list revokes the certificates with these serials")
-        .arg(issuer)?
-        .arg(index)?
-        .arg(list)?
-        .arg(serials)
+        .arg(
+            Arg::new(alloc, "issuer")
+                .long("issuer")
+                .value_name("NAME")
+                .action(ArgAction::Set)
+                .help("Only certificates of this issuer, by the text of its name"),
+        )?
+        .arg(
+            Arg::new(alloc, "index")
+                .long("index")
+                .value_name("FILE")
+                .action(ArgAction::Set)
+                .help("The file in which the index is kept; made where it isn't there"),
+        )?
+        .arg(
+            Arg::new(alloc, "LIST")
+                .required(true)
+                .action(ArgAction::Set)
+                .help("The list of revoked certificates, in DER"),
+        )?
+        .arg(
+            Arg::new(alloc, "SERIAL")
+                .required(true)
+                .action(ArgAction::Append)
+                .num_args(1..)
+                .help("Serials in hex, with colons or without; -: one a line from standard input"),
+        )
 }
 
 /// The options of these words, the first of which is the program's name.

@@ -15,7 +15,7 @@ use x509_revoked::{EntriesIndex, IndexError, RevocationIndex};
 type Map<'v, 'a> = HashMap<Oid<'a>, &'v X509Extension<'a>, Hasher>;
 
 // The value of each of these in the map.
-fn put_held<'v, 'a>(out: &mut Answer, extensions: &'v [X509Extension<'a>], map: &Map<'v, 'a>) {
+fn put_held<'v, 'a>(extensions: &'v [X509Extension<'a>], map: &Map<'v, 'a>, out: &mut Answer) {
     out.display(&map.len());
     for extension in extensions {
         match map.get(&extension.oid) {
@@ -27,12 +27,12 @@ fn put_held<'v, 'a>(out: &mut Answer, extensions: &'v [X509Extension<'a>], map: 
 
 // The same of a map that was made.
 fn put_map<'v, 'a>(
-    out: &mut Answer,
     extensions: &'v [X509Extension<'a>],
     made: Result<Map<'v, 'a>, X509Error>,
+    out: &mut Answer,
 ) {
     match made {
-        Ok(map) => put_held(out, extensions, &map),
+        Ok(map) => put_held(extensions, &map, out),
         Err(kind) => out.error(&kind),
     }
 }
@@ -68,7 +68,7 @@ macro_rules! put_by_identifier {
         put_result($out, $value.get_extension_unique($oid));
         $out.add("|map ");
         let map = $value.extensions_map($out.alloc(), Hasher::new());
-        put_map($out, $value.extensions(), map);
+        put_map($value.extensions(), map, $out);
     };
 }
 
@@ -116,7 +116,7 @@ fn put_entry(entry: &RevokedCertificate<'_>, oid: &Oid<'_>, out: &mut Answer) {
     entry.find_extension(oid).show(out);
     out.add(" ");
     let map = entry.extensions_map(out.alloc(), Hasher::new());
-    put_map(out, entry.extensions(), map);
+    put_map(entry.extensions(), map, out);
 }
 
 impl Tells<LookUps<'_>> for TbsCertList<'_> {
@@ -125,7 +125,7 @@ impl Tells<LookUps<'_>> for TbsCertList<'_> {
         self.find_extension(&asked.0).show(out);
         out.add("|map ");
         let map = self.extensions_map(out.alloc(), Hasher::new());
-        put_map(out, self.extensions(), map);
+        put_map(self.extensions(), map, out);
     }
 }
 
@@ -165,7 +165,7 @@ impl Tells<LookUps<'_>> for ExtensionRequest<'_> {
         put_result(out, get_extension_unique(extensions, &asked.0));
         out.add("|map ");
         let map = extensions_map(out.alloc(), extensions, Hasher::new());
-        put_map(out, extensions, map);
+        put_map(extensions, map, out);
     }
 }
 
@@ -269,11 +269,7 @@ impl Tells<Indexed<'_>> for TbsCertListEntries<'_> {
                 out.add(" ");
                 out.display(&compared);
                 out.add(" ");
-                match index.find(out.alloc(), &asked.0) {
-                    Ok(Some(entry)) => entry.show(out),
-                    Ok(None) => out.add("-"),
-                    Err(kind) => out.error(&kind),
-                }
+                put_result(out, index.find(out.alloc(), &asked.0));
                 out.add(" ");
                 put_index(out, &index);
             }
