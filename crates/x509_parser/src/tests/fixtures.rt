@@ -109,7 +109,7 @@ pub fn certificate_in(rt: &impl Ends, bytes: &'static [u8]) -> &'static X509Cert
     whole(rt, parse_x509_certificate(rt.alloc(), bytes))
 }
 
-/// The certificate at the front of these bytes, and in front of it what stands behind it.
+/// What stands behind the certificate at the front of these bytes, and the certificate.
 pub fn certificate_at(
     rt: &impl Ends,
     bytes: &'static [u8],
