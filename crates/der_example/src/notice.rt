@@ -1,8 +1,6 @@
 //! A structure of two fields that may be absent and one that may not.
 
-ghost use Rattle.std.specs.Prelude.{true};
-ghost use Rattle.x509_der.specs.Primitives.{is_constructed};
-ghost use Rattle.x509_der.specs.Reading.{strict};
+ghost use Rattle.x509_der.specs.Grammar.{allocates, in_sequence};
 ghost use Rattle.der_example.specs.Notice.{NoticeValue, notice_of, notice, notice_heads, notice_laws};
 
 use crate::topic::{Editions, Topics};
@@ -22,19 +20,7 @@ impl<'a> FromDer<'a, BerError> for Notice<'a> {
 
     ghost view = { notice_of };
 
-    ghost plan = { notice };
-
-    ghost laws = { notice_laws.laws.lawful };
-
-    ghost marked = { notice_laws.marked };
-
-    ghost form = { strict };
-
-    ghost own_tag = { is_constructed 16 };
-
-    ghost heads = { notice_heads };
-
-    ghost takes_memory = { true };
+    ghost grammar = { in_sequence notice notice_laws notice_heads allocates };
 
     #[tactic(auto, unfolding(crate::specs::Notice::notice), using(x509_der::proofs::Marking::marks_of_readers))]
     fn read_at<L: Outside>(

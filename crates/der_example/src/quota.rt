@@ -1,10 +1,8 @@
 //! Two numbers that may be absent, and nothing behind them.
 
-ghost use Rattle.std.specs.Prelude.{false};
+ghost use Rattle.x509_der.specs.Grammar.{borrows, in_sequence};
 ghost use Rattle.x509_der.specs.Leaves.{sequence};
-ghost use Rattle.x509_der.specs.Primitives.{is_constructed};
 ghost use Rattle.x509_der.specs.Promises.{OneTryEach};
-ghost use Rattle.x509_der.specs.Reading.{strict};
 ghost use Rattle.der_example.specs.Quota.{QuotaValue, quota_of, quota, quota_heads, quota_laws};
 
 use std::alloc::Global;
@@ -22,19 +20,7 @@ impl<'a> FromDer<'a, BerError> for Quota {
 
     ghost view = { quota_of };
 
-    ghost plan = { quota };
-
-    ghost laws = { quota_laws.laws.lawful };
-
-    ghost marked = { quota_laws.marked };
-
-    ghost form = { strict };
-
-    ghost own_tag = { is_constructed 16 };
-
-    ghost heads = { quota_heads };
-
-    ghost takes_memory = { false };
+    ghost grammar = { in_sequence quota quota_laws quota_heads borrows };
 
     ghost tight = { OneTryEach sequence };
 

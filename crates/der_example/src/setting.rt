@@ -1,10 +1,8 @@
 //! A truth and a number that may be absent, and nothing behind them.
 
-ghost use Rattle.std.specs.Prelude.{false};
+ghost use Rattle.x509_der.specs.Grammar.{borrows, in_sequence};
 ghost use Rattle.x509_der.specs.Leaves.{sequence};
-ghost use Rattle.x509_der.specs.Primitives.{is_constructed};
 ghost use Rattle.x509_der.specs.Promises.{OneTryEach};
-ghost use Rattle.x509_der.specs.Reading.{strict};
 ghost use Rattle.der_example.specs.Setting.{SettingValue, setting_of, setting, setting_heads, setting_laws};
 
 use std::alloc::Global;
@@ -22,19 +20,7 @@ impl<'a> FromDer<'a, BerError> for Setting {
 
     ghost view = { setting_of };
 
-    ghost plan = { setting };
-
-    ghost laws = { setting_laws.laws.lawful };
-
-    ghost marked = { setting_laws.marked };
-
-    ghost form = { strict };
-
-    ghost own_tag = { is_constructed 16 };
-
-    ghost heads = { setting_heads };
-
-    ghost takes_memory = { false };
+    ghost grammar = { in_sequence setting setting_laws setting_heads borrows };
 
     ghost tight = { OneTryEach sequence };
 

@@ -1,8 +1,7 @@
 //! Identifiers, and lists of them.
 
-ghost use Rattle.std.specs.Prelude.{ℕ, List, false, true};
-ghost use Rattle.x509_der.specs.Primitives.{is_constructed, is_primitive};
-ghost use Rattle.x509_der.specs.Reading.{strict};
+ghost use Rattle.std.specs.Prelude.{ℕ, List, true};
+ghost use Rattle.x509_der.specs.Grammar.{allocates, in_primitive, in_sequence, in_set};
 ghost use Rattle.der_example.specs.Topics.{topic_of, topics_of, editions_of, topic, topics, editions, list_heads, topic_laws, topics_laws, editions_laws};
 
 use std::alloc::Global;
@@ -21,19 +20,7 @@ impl<'a> FromDer<'a, BerError> for Topic<'a> {
 
     ghost view = { topic_of };
 
-    ghost plan = { topic };
-
-    ghost laws = { topic_laws.laws.lawful };
-
-    ghost marked = { topic_laws.marked };
-
-    ghost form = { strict };
-
-    ghost own_tag = { is_primitive 6 };
-
-    ghost heads = { λ _. 1 };
-
-    ghost takes_memory = { false };
+    ghost grammar = { in_primitive 6 topic topic_laws };
 
     #[tactic(auto, unfolding(crate::specs::Topics::topic, x509_der::specs::Leaves::oid, x509_der::specs::Primitives::contents_at), using(x509_der::proofs::Marking::marks_of_readers))]
     fn read_at<L: Outside>(
@@ -59,19 +46,7 @@ impl<'a> FromDer<'a, BerError> for Topics<'a> {
 
     ghost view = { topics_of };
 
-    ghost plan = { topics };
-
-    ghost laws = { topics_laws.laws.lawful };
-
-    ghost marked = { topics_laws.marked };
-
-    ghost form = { strict };
-
-    ghost own_tag = { is_constructed 16 };
-
-    ghost heads = { list_heads };
-
-    ghost takes_memory = { true };
+    ghost grammar = { in_sequence topics topics_laws list_heads allocates };
 
     #[tactic(auto, unfolding(crate::specs::Topics::topics), using(x509_der::proofs::Marking::marks_of_readers))]
     fn read_at<L: Outside>(
@@ -98,19 +73,7 @@ impl<'a> FromDer<'a, BerError> for Editions<'a> {
 
     ghost view = { editions_of };
 
-    ghost plan = { editions };
-
-    ghost laws = { editions_laws.laws.lawful };
-
-    ghost marked = { editions_laws.marked };
-
-    ghost form = { strict };
-
-    ghost own_tag = { is_constructed 17 };
-
-    ghost heads = { list_heads };
-
-    ghost takes_memory = { true };
+    ghost grammar = { in_set editions editions_laws list_heads allocates };
 
     #[tactic(auto, unfolding(crate::specs::Topics::editions), using(x509_der::proofs::Marking::marks_of_readers))]
     fn read_at<L: Outside>(

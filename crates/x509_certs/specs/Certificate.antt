@@ -11,7 +11,7 @@ use Rattle.x509_fields.specs.Fields.{Field}
 use Rattle.x509_fields.specs.Signed.{Signed, signed, signed_heads, signed_laws, HoldsPart, SignedStands}
 use Rattle.x509_certs.specs.TbsCertificate.{Tbs, tbs, tbs_laws, tbs_of, tbs_at_depth, tbs_heads}
 use Rattle.x509_der.proofs.Marked.{strictly_if_laws}
-use Rattle.x509_der.specs.Laws.{IsElement, IsMarkedElement}
+use Rattle.x509_der.specs.Laws.{IsMarkedElement}
 use Rattle.x509_certs.specs.declared.certificate.X509Certificate.{X509Certificate}
 use Rattle.x509_certs.specs.declared.certificate_parser.X509CertificateParser.{X509CertificateParser}
 
@@ -78,5 +78,5 @@ pub certificate_laws : (deep : Bool) → IsMarkedElement is_x509_memory (certifi
 unfolding certificate
 certificate_laws deep = signed_laws (tbs deep) (tbs_laws deep)
 
-pub certificate_by_laws : (deep strictly : Bool) → IsElement is_x509_memory (certificate_by deep strictly)
-certificate_by_laws deep strictly = strictly_if_laws is_x509_memory strictly x509.Generic (certificate deep) (certificate_laws deep).laws (certificate_laws deep).marked
+pub certificate_by_laws : (deep strictly : Bool) → IsMarkedElement is_x509_memory (certificate_by deep strictly)
+certificate_by_laws deep strictly = strictly_if_laws is_x509_memory strictly x509.Generic (certificate deep) (certificate_laws deep)

@@ -17,7 +17,7 @@ use Rattle.x509_extensions.specs.ExtensionList.{wrapped_extensions, wrapped_exte
 use Rattle.x509_certs.specs.Validity.{Period, period_of, period_heads}
 use Rattle.x509_certs.specs.BasicFields.{basic_fields, basic_fields_laws}
 use Rattle.x509_der.proofs.Marked.{strictly_if_laws}
-use Rattle.x509_der.specs.Laws.{IsElement, IsMarkedElement}
+use Rattle.x509_der.specs.Laws.{IsMarkedElement}
 use Rattle.x509_der.proofs.Marking.{marked}
 use Rattle.x509_certs.specs.ExplicitVersion.{version_heads}
 use Rattle.x509_certs.specs.UniqueIdentifier.{issuer_uid, subject_uid, issuer_uid_laws, subject_uid_laws, bits_of_uid, uid_heads}
@@ -138,5 +138,5 @@ pub tbs_laws : (deep : Bool) → IsMarkedElement is_x509_memory (tbs deep)
 unfolding tbs
 tbs_laws deep = search (marked, as_x509_renames, basic_fields_laws, issuer_uid_laws, subject_uid_laws, wrapped_extensions_laws) depth 60
 
-pub tbs_by_laws : (deep strictly : Bool) → IsElement is_x509_memory (tbs_by deep strictly)
-tbs_by_laws deep strictly = strictly_if_laws is_x509_memory strictly x509.Generic (tbs deep) (tbs_laws deep).laws (tbs_laws deep).marked
+pub tbs_by_laws : (deep strictly : Bool) → IsMarkedElement is_x509_memory (tbs_by deep strictly)
+tbs_by_laws deep strictly = strictly_if_laws is_x509_memory strictly x509.Generic (tbs deep) (tbs_laws deep)

@@ -1,10 +1,9 @@
 //! Certificates.
 
 ghost use Rattle.std.specs.Prelude.{◌≡◌, MatchResult, codes, string_bytes, true};
+ghost use Rattle.x509_der.specs.Grammar.{allocates, in_sequence};
 ghost use Rattle.x509_der.specs.Hex.{hex_text};
 ghost use Rattle.x509_der.specs.Iterating.{Iterates};
-ghost use Rattle.x509_der.specs.Primitives.{is_constructed};
-ghost use Rattle.x509_der.specs.Reading.{strict};
 ghost use Rattle.x509_fields.specs.declared.error.X509Error.TheVariants.{OutOfMemory};
 ghost use Rattle.x509_certs.specs.Certificate.{Certificate, certificate_of, certificate_heads, certificate, certificate_laws};
 
@@ -126,19 +125,7 @@ impl<'a> FromDer<'a, X509Error> for X509Certificate<'a> {
 
     ghost view = { certificate_of };
 
-    ghost plan = { certificate true };
-
-    ghost laws = { (certificate_laws true).laws.lawful };
-
-    ghost marked = { (certificate_laws true).marked };
-
-    ghost form = { strict };
-
-    ghost own_tag = { is_constructed 16 };
-
-    ghost heads = { certificate_heads };
-
-    ghost takes_memory = { true };
+    ghost grammar = { in_sequence (certificate true) (certificate_laws true) certificate_heads allocates };
 
     fn read_at<L: Outside>(
         alloc: Global,

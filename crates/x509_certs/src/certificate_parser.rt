@@ -1,6 +1,7 @@
 //! Readers of certificates.
 
 ghost use Rattle.std.specs.Prelude.{◌≡◌, ◌≤◌, ◌+◌, ◌*◌, true, false, IfOk, length};
+ghost use Rattle.x509_der.specs.Grammar.{allocates, in_sequence};
 ghost use Rattle.x509_der.specs.Looks.{behind};
 ghost use Rattle.x509_der.specs.Place.{at, outside_of};
 ghost use Rattle.x509_der.specs.Primitives.{is_constructed};
@@ -122,17 +123,7 @@ impl<'a> Reader<'a, X509Error, X509Certificate<'a>> for X509CertificateParser {
 
     ghost view = { certificate_of };
 
-    ghost plan = { λ p. certificate_by (is_deep p) (is_strict p) };
-
-    ghost laws = { λ p. (certificate_by_laws (is_deep p) (is_strict p)).lawful };
-
-    ghost form = { strict };
-
-    ghost own_tag = { λ _. is_constructed 16 };
-
-    ghost heads = { certificate_heads };
-
-    ghost takes_memory = { true };
+    ghost grammar = { λ p. in_sequence (certificate_by (is_deep p) (is_strict p)) (certificate_by_laws (is_deep p) (is_strict p)) certificate_heads allocates };
 
     ghost is_deep = { is_deep };
 
@@ -166,5 +157,5 @@ impl<'a> Reader<'a, X509Error, X509Certificate<'a>> for X509CertificateParser {
         }
     }
 
-    ghost never_memory = { λ p. (certificate_by_laws (is_deep p) (is_strict p)).never_memory };
+    ghost never_memory = { λ p. (certificate_by_laws (is_deep p) (is_strict p)).laws.never_memory };
 }

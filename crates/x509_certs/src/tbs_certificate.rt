@@ -1,10 +1,9 @@
 //! The part of a certificate that is signed.
 
 ghost use Rattle.std.specs.Prelude.{◌≡◌, MatchResult, codes, string_bytes, true};
+ghost use Rattle.x509_der.specs.Grammar.{allocates, in_sequence};
 ghost use Rattle.x509_der.specs.Hex.{hex_text};
 ghost use Rattle.x509_der.specs.Iterating.{Iterates};
-ghost use Rattle.x509_der.specs.Primitives.{is_constructed};
-ghost use Rattle.x509_der.specs.Reading.{strict};
 ghost use Rattle.x509_fields.specs.declared.error.X509Error.TheVariants.{OutOfMemory};
 ghost use Rattle.x509_certs.specs.TbsCertificate.{Tbs, tbs_of, tbs_heads, tbs, tbs_laws};
 
@@ -140,19 +139,7 @@ impl<'a> FromDer<'a, X509Error> for TbsCertificate<'a> {
 
     ghost view = { tbs_of };
 
-    ghost plan = { tbs true };
-
-    ghost laws = { (tbs_laws true).laws.lawful };
-
-    ghost marked = { (tbs_laws true).marked };
-
-    ghost form = { strict };
-
-    ghost own_tag = { is_constructed 16 };
-
-    ghost heads = { tbs_heads };
-
-    ghost takes_memory = { true };
+    ghost grammar = { in_sequence (tbs true) (tbs_laws true) tbs_heads allocates };
 
     fn read_at<L: Outside>(
         alloc: Global,

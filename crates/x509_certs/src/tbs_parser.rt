@@ -1,7 +1,7 @@
 //! Readers of the signed part.
 
 ghost use Rattle.std.specs.Prelude.{◌≡◌, true, false};
-ghost use Rattle.x509_der.specs.Primitives.{is_constructed};
+ghost use Rattle.x509_der.specs.Grammar.{allocates, in_sequence};
 ghost use Rattle.x509_der.specs.Reading.{strict};
 ghost use Rattle.x509_extensions.specs.Extension.{value_bytes};
 ghost use Rattle.x509_certs.specs.Standing.{tbs_by_stands, tbs_refused};
@@ -83,17 +83,8 @@ impl<'a> Reader<'a, X509Error, TbsCertificate<'a>> for TbsCertificateParser {
 
     ghost view = { tbs_of };
 
-    ghost plan = { λ p. tbs_by (looks_at_values p) (takes_plain_alone p) };
-
-    ghost laws = { λ p. (tbs_by_laws (looks_at_values p) (takes_plain_alone p)).lawful };
-
-    ghost form = { strict };
-
-    ghost own_tag = { λ _. is_constructed 16 };
-
-    ghost heads = { tbs_heads };
-
-    ghost takes_memory = { true };
+    ghost grammar = { λ p. in_sequence (tbs_by (looks_at_values p) (takes_plain_alone p)) (tbs_by_laws (looks_at_values p) (takes_plain_alone p))
+        tbs_heads allocates };
 
     ghost is_deep = { looks_at_values };
 
@@ -127,5 +118,5 @@ impl<'a> Reader<'a, X509Error, TbsCertificate<'a>> for TbsCertificateParser {
         }
     }
 
-    ghost never_memory = { λ p. (tbs_by_laws (looks_at_values p) (takes_plain_alone p)).never_memory };
+    ghost never_memory = { λ p. (tbs_by_laws (looks_at_values p) (takes_plain_alone p)).laws.never_memory };
 }

@@ -1,8 +1,7 @@
 //! Reading signed parts.
 
-ghost use Rattle.std.specs.Prelude.{⊤, true};
-ghost use Rattle.x509_der.specs.Primitives.{is_constructed};
-ghost use Rattle.x509_der.specs.Reading.{strict};
+ghost use Rattle.std.specs.Prelude.{⊤};
+ghost use Rattle.x509_der.specs.Grammar.{allocates, in_sequence};
 ghost use Rattle.x509_extensions.specs.Extension.{value_bytes};
 ghost use Rattle.x509_certs.specs.TbsCertificate.{Tbs, tbs_of, tbs_heads, tbs, tbs_laws};
 
@@ -25,17 +24,7 @@ impl<'a> Reader<'a, X509Error, TbsCertificate<'a>> for TbsReader {
 
     ghost view = { tbs_of };
 
-    ghost plan = { λ r. tbs r.extensions.deep_parse_extensions };
-
-    ghost laws = { λ r. (tbs_laws r.extensions.deep_parse_extensions).laws.lawful };
-
-    ghost form = { strict };
-
-    ghost own_tag = { λ _. is_constructed 16 };
-
-    ghost heads = { tbs_heads };
-
-    ghost takes_memory = { true };
+    ghost grammar = { λ r. in_sequence (tbs r.extensions.deep_parse_extensions) (tbs_laws r.extensions.deep_parse_extensions) tbs_heads allocates };
 
     ghost is_deep = { λ r. r.extensions.deep_parse_extensions };
 

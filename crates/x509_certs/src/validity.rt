@@ -2,8 +2,7 @@
 
 ghost use Rattle.std.specs.Prelude.{◌≡◌, IsTrue, ◌↔◌, ℤ, false, option_map};
 ghost use Rattle.jiff_duration.specs.SignedDuration.{signed_nanos};
-ghost use Rattle.x509_der.specs.Primitives.{is_constructed};
-ghost use Rattle.x509_der.specs.Reading.{strict};
+ghost use Rattle.x509_der.specs.Grammar.{borrows, in_sequence};
 ghost use Rattle.x509_fields.specs.Times.{instant_of};
 ghost use Rattle.x509_certs.specs.Expiration.{IsValidAt, IsLeftAt, IsValidAtSecond, IsTimeLeft, days_left};
 ghost use Rattle.x509_certs.specs.Validity.{Period, period_of, period_heads, validity, validity_laws};
@@ -106,19 +105,7 @@ impl<'a> FromDer<'a, X509Error> for Validity {
 
     ghost view = { period_of };
 
-    ghost plan = { validity };
-
-    ghost laws = { validity_laws.laws.lawful };
-
-    ghost marked = { validity_laws.marked };
-
-    ghost form = { strict };
-
-    ghost own_tag = { is_constructed 16 };
-
-    ghost heads = { period_heads };
-
-    ghost takes_memory = { false };
+    ghost grammar = { in_sequence validity validity_laws period_heads borrows };
 
     #[inline(always)]
     #[tactic(auto, unfolding(crate::specs::Validity::validity), using(x509_der::proofs::Marking::marks_of_readers))]

@@ -88,8 +88,8 @@ impl<'a, L: Outside> Fields<'a, L> {
         alloc: Global,
         tries: &mut Tries,
     ) -> Result<(Fields<'a, L>, T), Refused<E, L>>
-        ensures { ReadsNext E.is_memory T.takes_memory T.heads (λ x. (next_of x.0, T.view x.1)) (λ x. outer_of x.0) (λ x. plain_in x.0) T.plan T.tight
-            (plain_in self.now) L.adds (next_of self.now) (outer_of self.now) tries.old tries.new result }
+        ensures { ReadsNext E.is_memory T.grammar.takes_memory T.grammar.heads (λ x. (next_of x.0, T.view x.1)) (λ x. outer_of x.0) (λ x. plain_in x.0)
+            T.grammar.plan T.tight (plain_in self.now) L.adds (next_of self.now) (outer_of self.now) tries.old tries.new result }
     {
         match T::read_at(alloc, tries, &self.place) {
             Ok((value, plain)) => Ok((self.behind(tries, plain), value)),
@@ -104,8 +104,8 @@ impl<'a, L: Outside> Fields<'a, L> {
         alloc: Global,
         tries: &mut Tries,
     ) -> Result<(T, bool), Refused<E, L>>
-        ensures { ReadsLast E.is_memory T.takes_memory T.heads T.view T.plan T.tight (plain_in self.now) L.adds (next_of self.now) (outer_of self.now)
-            tries.old tries.new result }
+        ensures { ReadsLast E.is_memory T.grammar.takes_memory T.grammar.heads T.view T.grammar.plan T.tight (plain_in self.now) L.adds
+            (next_of self.now) (outer_of self.now) tries.old tries.new result }
     {
         match T::read_at(alloc, tries, &self.place) {
             Ok((value, plain)) => Ok((value, self.plain & (plain & self.place.rest().is_empty()))),
@@ -120,8 +120,8 @@ impl<'a, L: Outside> Fields<'a, L> {
         alloc: Global,
         tries: &mut Tries,
     ) -> Result<(Fields<'a, L>, Option<T>), Refused<E, L>>
-        ensures { ReadsSoft E.is_memory T.form T.own_tag T.heads (λ x. (next_of x.0, option_view T.view x.1)) (λ x. outer_of x.0) (λ x. plain_in x.0) T.plan
-            T.tight (plain_in self.now) L.adds (next_of self.now) (outer_of self.now) tries.old tries.new result }
+        ensures { ReadsSoft E.is_memory T.grammar.form T.grammar.own_tag T.grammar.heads (λ x. (next_of x.0, option_view T.view x.1)) (λ x. outer_of x.0)
+            (λ x. plain_in x.0) T.grammar.plan T.tight (plain_in self.now) L.adds (next_of self.now) (outer_of self.now) tries.old tries.new result }
     {
         match T::read_at(alloc, tries, &self.place) {
             Ok((value, plain)) => Ok((self.behind(tries, plain), Some(value))),
@@ -142,8 +142,9 @@ impl<'a, L: Outside> Fields<'a, L> {
         alloc: Global,
         tries: &mut Tries,
     ) -> Result<(Fields<'a, L>, X), Refused<E, L>>
-        ensures next { ReadsNext E.is_memory R.takes_memory R.heads (λ x. (next_of x.0, R.view x.1)) (λ x. outer_of x.0) (λ x. plain_in x.0)
-            (R.plan reader.now) R.tight (plain_in self.now) L.adds (next_of self.now) (outer_of self.now) tries.old tries.new result }
+        ensures next { ReadsNext E.is_memory (R.grammar reader.now).takes_memory (R.grammar reader.now).heads (λ x. (next_of x.0, R.view x.1))
+            (λ x. outer_of x.0) (λ x. plain_in x.0) (R.grammar reader.now).plan R.tight (plain_in self.now) L.adds
+            (next_of self.now) (outer_of self.now) tries.old tries.new result }
         ensures shallow { R.is_deep reader.now ≡ false
             → IfOk result (λ x. tries.new + 8 + 8 * R.unread (R.view x.1) + 8 * length (next_of x.0) ≤ tries.old + 8 * length (next_of self.now)) }
     {
@@ -161,8 +162,9 @@ impl<'a, L: Outside> Fields<'a, L> {
         alloc: Global,
         tries: &mut Tries,
     ) -> Result<(Fields<'a, L>, Option<X>), Refused<E, L>>
-        ensures { ReadsSoft E.is_memory R.form (R.own_tag reader.now) R.heads (λ x. (next_of x.0, option_view R.view x.1)) (λ x. outer_of x.0)
-            (λ x. plain_in x.0) (R.plan reader.now) R.tight (plain_in self.now) L.adds (next_of self.now) (outer_of self.now) tries.old tries.new result }
+        ensures { ReadsSoft E.is_memory (R.grammar reader.now).form (R.grammar reader.now).own_tag (R.grammar reader.now).heads
+            (λ x. (next_of x.0, option_view R.view x.1)) (λ x. outer_of x.0) (λ x. plain_in x.0) (R.grammar reader.now).plan R.tight
+            (plain_in self.now) L.adds (next_of self.now) (outer_of self.now) tries.old tries.new result }
     {
         match reader.read_at(alloc, tries, &self.place) {
             Ok((value, plain)) => Ok((self.behind(tries, plain), Some(value))),

@@ -1,14 +1,11 @@
 //! The trait of what is read from one element.
 
-ghost use Rattle.std.specs.Prelude.{◌≡◌, ⊤, Bool, List, ℕ, IfOk};
-ghost use Rattle.x509_der.specs.declared.error.Err.{Err as Refusal};
-ghost use Rattle.x509_der.specs.declared.header.Header.{Header};
-ghost use Rattle.x509_der.specs.declared.look.Form.{Form};
+ghost use Rattle.std.specs.Prelude.{◌≡◌, ⊤, List, ℕ, IfOk};
+ghost use Rattle.x509_der.specs.Grammar.{Grammar, ReadsBy, TriesBy};
+ghost use Rattle.x509_der.specs.Laws.{NeverMemory};
 ghost use Rattle.x509_der.specs.Place.{at, outside_of};
-ghost use Rattle.x509_der.specs.Plan.{Plan};
-ghost use Rattle.x509_der.specs.Laws.{IsLawful, IsMarked, NeverMemory};
 ghost use Rattle.x509_der.specs.Reading.{tried};
-ghost use Rattle.x509_der.specs.Promises.{Answers, TriesBounded, ReadsAt, ReadsExactly, ReadsWhere};
+ghost use Rattle.x509_der.specs.Promises.{Answers, ReadsExactly, ReadsWhere};
 
 use crate::error::{Err, Located, ReadError, Refused};
 use crate::outside::Outside;
@@ -18,35 +15,17 @@ use std::alloc::Global;
 
 /// What can be read from the first element of some bytes.
 ///
-/// A type says what its values are apart from memory (`Value`, `view`) and gives its grammar (`plan`) with its laws and its
-/// marks; its `read_at` then answers what the plan reads, and [`FromDer::read_marked`], [`FromDer::read`] and
-/// [`FromDer::from_der`] follow for every type at once.
+/// A type says what its values are apart from memory (`Value`, `view`) and gives its grammar: the plan with its laws and its
+/// marks, and what readers need to know of it. Its `read_at` then answers what the plan reads, and [`FromDer::read_marked`],
+/// [`FromDer::read`] and [`FromDer::from_der`] follow for every type at once.
 pub trait FromDer<'a, E: ReadError>: Sized {
     /// What a value is, without where it lies in memory.
     ghost Value: { Type 0 };
 
     ghost view: { Self → Value };
 
-    /// Its grammar, its refusals, and the one reading of the bytes.
-    ghost plan: { Plan (Refusal E) Value };
-
-    /// These three say one thing, of the first element alone.
-    ghost laws: { IsLawful plan };
-
-    /// The mark of what is read tells the sentences that stand plainly from the others.
-    ghost marked: { IsMarked plan };
-
-    /// The form of the length in the headers that the type takes.
-    ghost form: { Form };
-
-    /// The headers of the type's own class and number.
-    ghost own_tag: { Header → Bool };
-
-    /// How many headers a value's element holds: its own, and those of its fields and members.
-    ghost heads: { Value → ℕ };
-
-    /// Whether a reading may find no memory.
-    ghost takes_memory: { Bool };
+    /// Its grammar, with the laws of it: its sentences, its refusals, and the one reading of the bytes.
+    ghost grammar: { Grammar E Value };
 
     /// A sharper bound on the tries of these bytes beyond the look at them, for the types that have one: the counts before and after.
     ghost tight: { List ℕ → ℕ → ℕ → Type 0 } = { λ _ _ _. ⊤ };
@@ -58,11 +37,11 @@ pub trait FromDer<'a, E: ReadError>: Sized {
         tries: &mut Tries,
         place: &Place<'a, L>,
     ) -> Result<(Self, bool), Refused<E, L>>
-        ensures reads { ReadsAt E.is_memory takes_memory form own_tag heads view plan L.adds (at place.now) (outside_of place.now) tries.old tries.new result }
+        ensures reads { ReadsBy E.is_memory grammar view L.adds (at place.now) (outside_of place.now) tries.old tries.new result }
         ensures tight { tight (at place.now) tries.old tries.new };
 
     /// No refusal of the grammar is want of memory, so that is answered only where memory was refused.
-    ghost never_memory: { NeverMemory E.is_memory plan };
+    ghost never_memory: { NeverMemory E.is_memory grammar.plan };
 
     /// Reads the element at the front, tells whether it stands plainly, and counts the headers that it tries: at most eight
     /// for each byte.
@@ -72,9 +51,9 @@ pub trait FromDer<'a, E: ReadError>: Sized {
         tries: &mut Tries,
         i: &'a [u8],
     ) -> Result<(&'a [u8], Self, bool), Err<E>>
-        ensures reads { Answers E.is_memory takes_memory (λ x. (x.0.now, view x.1)) result (plan.read i.now) }
-        ensures marks { IfOk result (λ x. x.2 ≡ plan.marks i.now) }
-        ensures tries { TriesBounded form own_tag heads (λ x. (x.0.now, view x.1)) i.now tries.old tries.new result }
+        ensures reads { Answers E.is_memory grammar.takes_memory (λ x. (x.0.now, view x.1)) result (grammar.plan.read i.now) }
+        ensures marks { IfOk result (λ x. x.2 ≡ grammar.plan.marks i.now) }
+        ensures tries { TriesBy grammar (λ x. (x.0.now, view x.1)) i.now tries.old tries.new result }
         ensures tight { tight i.now (tried tries.old i.now) tries.new }
     {
         let place = Place::look(tries, i);
@@ -87,8 +66,8 @@ pub trait FromDer<'a, E: ReadError>: Sized {
     /// The same without its mark.
     #[inline(always)]
     final fn read(alloc: Global, tries: &mut Tries, i: &'a [u8]) -> Result<(&'a [u8], Self), Err<E>>
-        ensures reads { Answers E.is_memory takes_memory (λ x. (x.0.now, view x.1)) result (plan.read i.now) }
-        ensures tries { TriesBounded form own_tag heads (λ x. (x.0.now, view x.1)) i.now tries.old tries.new result }
+        ensures reads { Answers E.is_memory grammar.takes_memory (λ x. (x.0.now, view x.1)) result (grammar.plan.read i.now) }
+        ensures tries { TriesBy grammar (λ x. (x.0.now, view x.1)) i.now tries.old tries.new result }
         ensures tight { tight i.now (tried tries.old i.now) tries.new }
     {
         // not by `read_marked`: each layer that a value passes through is a copy of it
@@ -101,7 +80,7 @@ pub trait FromDer<'a, E: ReadError>: Sized {
 
     /// Reads the element at the front: exactly where a front of the bytes is in the grammar, with its value and the rest.
     final fn from_der(alloc: Global, i: &'a [u8]) -> Result<(&'a [u8], Self), Err<E>>
-        ensures { ReadsExactly E.is_memory takes_memory (λ x. (x.0.now, view x.1)) plan i.now result }
+        ensures { ReadsExactly E.is_memory grammar.takes_memory (λ x. (x.0.now, view x.1)) grammar.plan i.now result }
     {
         let mut tries = Tries::new();
         Self::read(alloc, &mut tries, i)
@@ -110,7 +89,7 @@ pub trait FromDer<'a, E: ReadError>: Sized {
     /// Reads the element at the front as [`FromDer::from_der`] does; a refusal has the offset of the place at which the
     /// grammar refuses the bytes.
     final fn from_der_located(alloc: Global, i: &'a [u8]) -> Result<(&'a [u8], Self), Located<E>>
-        ensures { ReadsWhere E.is_memory takes_memory (λ x. (x.0.now, view x.1)) plan i.now result }
+        ensures { ReadsWhere E.is_memory grammar.takes_memory (λ x. (x.0.now, view x.1)) grammar.plan i.now result }
     {
         let mut tries = Tries::new();
         let place = Place::look_before(&mut tries, i, 0usize);
@@ -125,8 +104,8 @@ pub trait FromDer<'a, E: ReadError>: Sized {
         alloc: Global,
         i: &'a [u8],
     ) -> Result<(&'a [u8], Self, bool), Located<E>>
-        ensures exact { ReadsWhere E.is_memory takes_memory (λ x. (x.0.now, view x.1)) plan i.now result }
-        ensures marks { IfOk result (λ x. x.2 ≡ plan.marks i.now) }
+        ensures exact { ReadsWhere E.is_memory grammar.takes_memory (λ x. (x.0.now, view x.1)) grammar.plan i.now result }
+        ensures marks { IfOk result (λ x. x.2 ≡ grammar.plan.marks i.now) }
     {
         let mut tries = Tries::new();
         let place = Place::look_before(&mut tries, i, 0usize);

@@ -2,13 +2,12 @@
 
 ghost use Rattle.std.specs.Prelude.{◌≡◌, ◌≤◌, ◌+◌, ◌*◌, ⊤, Bool, true, false, List, ℕ, length, Err as Refusing, IfOk, IfErr};
 ghost use Rattle.x509_der.specs.declared.error.Err.{Err as Refusal};
-ghost use Rattle.x509_der.specs.declared.header.Header.{Header};
-ghost use Rattle.x509_der.specs.declared.look.Form.{Form};
-ghost use Rattle.x509_der.specs.Laws.{IsBytes, IsLawful, NeverMemory};
+ghost use Rattle.x509_der.specs.Grammar.{Grammar, ReadsBy, TriesBy};
+ghost use Rattle.x509_der.specs.Laws.{IsBytes, NeverMemory};
 ghost use Rattle.x509_der.specs.Looks.{behind};
 ghost use Rattle.x509_der.specs.Place.{at, outside_of};
-ghost use Rattle.x509_der.specs.Plan.{Plan, got};
-ghost use Rattle.x509_der.specs.Promises.{Answers, TriesBounded, ReadsAt, ReadsExactly, ReadsWhere, is_excused};
+ghost use Rattle.x509_der.specs.Plan.{got};
+ghost use Rattle.x509_der.specs.Promises.{Answers, ReadsExactly, ReadsWhere, is_excused};
 ghost use Rattle.x509_der.specs.Reading.{tried};
 
 use crate::error::{Err, Located, ReadError, Refused};
@@ -28,23 +27,8 @@ pub trait Reader<'a, E: ReadError, X>: Sized {
 
     ghost view: { X → Value };
 
-    /// Its grammar, its refusals, and the one reading of the bytes, by the settings.
-    ghost plan: { Self → Plan (Refusal E) Value };
-
-    /// These three say one thing, of the first element alone.
-    ghost laws: { (reader : Self) → IsLawful (plan reader) };
-
-    /// The form of the length in the headers that it takes.
-    ghost form: { Form };
-
-    /// The headers of its own class and number.
-    ghost own_tag: { Self → Header → Bool };
-
-    /// How many headers a value's element holds: its own, and those of its fields and members.
-    ghost heads: { Value → ℕ };
-
-    /// Whether a reading may find no memory.
-    ghost takes_memory: { Bool };
+    /// Its grammar by the settings, with the laws of it: its sentences, its refusals, and the one reading of the bytes.
+    ghost grammar: { Self → Grammar E Value };
 
     /// As `tight` of a type.
     ghost tight: { List ℕ → ℕ → ℕ → Type 0 } = { λ _ _ _. ⊤ };
@@ -65,10 +49,10 @@ pub trait Reader<'a, E: ReadError, X>: Sized {
     ghost refused: { Self → List ℕ → Refusal E → Type 0 } = { λ _ _ _. ⊤ };
 
     ghost stands_where: { (reader : Self) (bytes : List ℕ) (value : Value) (rest : List ℕ) → IsBytes bytes
-        → (plan reader).read bytes ≡ got value rest → stands reader bytes value rest };
+        → (grammar reader).plan.read bytes ≡ got value rest → stands reader bytes value rest };
 
     ghost refused_where: { (reader : Self) (bytes : List ℕ) (why : Refusal E) → tells_refusals reader → IsBytes bytes
-        → (plan reader).read bytes ≡ Refusing why → refused reader bytes why };
+        → (grammar reader).plan.read bytes ≡ Refusing why → refused reader bytes why };
 
     /// Reads the element at a place that was looked at, tells whether it stands plainly, and counts the headers that it tries
     /// beyond that look.
@@ -78,15 +62,14 @@ pub trait Reader<'a, E: ReadError, X>: Sized {
         tries: &mut Tries,
         place: &Place<'a, L>,
     ) -> Result<(X, bool), Refused<E, L>>
-        ensures reads { ReadsAt E.is_memory takes_memory form (own_tag self.now) heads view (plan self.now) L.adds (at place.now) (outside_of place.now)
-            tries.old tries.new result }
+        ensures reads { ReadsBy E.is_memory (grammar self.now) view L.adds (at place.now) (outside_of place.now) tries.old tries.new result }
         ensures tight { tight (at place.now) tries.old tries.new }
         // Eight for each byte that it looks at.
         ensures shallow { is_deep self.now ≡ false
             → IfOk result (λ x. tries.new + 9 + 8 * unread (view x.0) + 8 * length (behind (at place.now)) ≤ tries.old + 8 * length (at place.now)) };
 
     /// No refusal of the grammar is want of memory, so that is answered only where memory was refused.
-    ghost never_memory: { (reader : Self) → NeverMemory E.is_memory (plan reader) };
+    ghost never_memory: { (reader : Self) → NeverMemory E.is_memory (grammar reader).plan };
 
     /// Reads the element at the front, tells whether it stands plainly, and counts the headers that it tries: at most eight
     /// for each byte, of those alone that it looks at.
@@ -97,11 +80,12 @@ pub trait Reader<'a, E: ReadError, X>: Sized {
         tries: &mut Tries,
         i: &'a [u8],
     ) -> Result<(&'a [u8], X, bool), Err<E>>
-        ensures reads { Answers E.is_memory takes_memory (λ x. (x.0.now, view x.1)) result ((plan self.now).read i.now) }
-        ensures marks { IfOk result (λ x. x.2 ≡ (plan self.now).marks i.now) }
+        ensures reads { Answers E.is_memory (grammar self.now).takes_memory (λ x. (x.0.now, view x.1)) result ((grammar self.now).plan.read i.now) }
+        ensures marks { IfOk result (λ x. x.2 ≡ (grammar self.now).plan.marks i.now) }
         ensures stands { IfOk result (λ x. stands self.now i.now (view x.1) x.0.now) }
-        ensures refused { tells_refusals self.now → IfErr result (λ e. is_excused E.is_memory takes_memory e ≡ false → refused self.now i.now e) }
-        ensures tries { TriesBounded form (own_tag self.now) heads (λ x. (x.0.now, view x.1)) i.now tries.old tries.new result }
+        ensures refused { tells_refusals self.now
+            → IfErr result (λ e. is_excused E.is_memory (grammar self.now).takes_memory e ≡ false → refused self.now i.now e) }
+        ensures tries { TriesBy (grammar self.now) (λ x. (x.0.now, view x.1)) i.now tries.old tries.new result }
         ensures tight { tight i.now (tried tries.old i.now) tries.new }
         ensures shallow { is_deep self.now ≡ false
             → IfOk result (λ x. tries.new + 8 + 8 * unread (view x.1) + 8 * length x.0.now ≤ tries.old + 8 * length i.now) }
@@ -121,10 +105,11 @@ pub trait Reader<'a, E: ReadError, X>: Sized {
         tries: &mut Tries,
         i: &'a [u8],
     ) -> Result<(&'a [u8], X), Err<E>>
-        ensures reads { Answers E.is_memory takes_memory (λ x. (x.0.now, view x.1)) result ((plan self.now).read i.now) }
+        ensures reads { Answers E.is_memory (grammar self.now).takes_memory (λ x. (x.0.now, view x.1)) result ((grammar self.now).plan.read i.now) }
         ensures stands { IfOk result (λ x. stands self.now i.now (view x.1) x.0.now) }
-        ensures refused { tells_refusals self.now → IfErr result (λ e. is_excused E.is_memory takes_memory e ≡ false → refused self.now i.now e) }
-        ensures tries { TriesBounded form (own_tag self.now) heads (λ x. (x.0.now, view x.1)) i.now tries.old tries.new result }
+        ensures refused { tells_refusals self.now
+            → IfErr result (λ e. is_excused E.is_memory (grammar self.now).takes_memory e ≡ false → refused self.now i.now e) }
+        ensures tries { TriesBy (grammar self.now) (λ x. (x.0.now, view x.1)) i.now tries.old tries.new result }
         ensures tight { tight i.now (tried tries.old i.now) tries.new }
         ensures shallow { is_deep self.now ≡ false
             → IfOk result (λ x. tries.new + 8 + 8 * unread (view x.1) + 8 * length x.0.now ≤ tries.old + 8 * length i.now) }
@@ -139,9 +124,10 @@ pub trait Reader<'a, E: ReadError, X>: Sized {
 
     /// Reads the element at the front: exactly where a front of the bytes is in the grammar, with its value and the rest.
     final fn parse(&self, alloc: Global, i: &'a [u8]) -> Result<(&'a [u8], X), Err<E>>
-        ensures exact { ReadsExactly E.is_memory takes_memory (λ x. (x.0.now, view x.1)) (plan self.now) i.now result }
+        ensures exact { ReadsExactly E.is_memory (grammar self.now).takes_memory (λ x. (x.0.now, view x.1)) (grammar self.now).plan i.now result }
         ensures stands { IfOk result (λ x. stands self.now i.now (view x.1) x.0.now) }
-        ensures refused { tells_refusals self.now → IfErr result (λ e. is_excused E.is_memory takes_memory e ≡ false → refused self.now i.now e) }
+        ensures refused { tells_refusals self.now
+            → IfErr result (λ e. is_excused E.is_memory (grammar self.now).takes_memory e ≡ false → refused self.now i.now e) }
     {
         let mut tries = Tries::new();
         self.read(alloc, &mut tries, i)
@@ -150,9 +136,10 @@ pub trait Reader<'a, E: ReadError, X>: Sized {
     /// Reads the element at the front as [`Reader::parse`] does; a refusal has the offset of the place at which the grammar
     /// refuses the bytes.
     final fn parse_located(&self, alloc: Global, i: &'a [u8]) -> Result<(&'a [u8], X), Located<E>>
-        ensures exact { ReadsWhere E.is_memory takes_memory (λ x. (x.0.now, view x.1)) (plan self.now) i.now result }
+        ensures exact { ReadsWhere E.is_memory (grammar self.now).takes_memory (λ x. (x.0.now, view x.1)) (grammar self.now).plan i.now result }
         ensures stands { IfOk result (λ x. stands self.now i.now (view x.1) x.0.now) }
-        ensures refused { tells_refusals self.now → IfErr result (λ e. is_excused E.is_memory takes_memory e.why ≡ false → refused self.now i.now e.why) }
+        ensures refused { tells_refusals self.now
+            → IfErr result (λ e. is_excused E.is_memory (grammar self.now).takes_memory e.why ≡ false → refused self.now i.now e.why) }
     {
         let mut tries = Tries::new();
         let place = Place::look_before(&mut tries, i, 0usize);
@@ -172,17 +159,7 @@ impl<'a, E: ReadError, T: FromDer<'a, E>> Reader<'a, E, T> for OfType {
 
     ghost view = { T.view };
 
-    ghost plan = { λ _. T.plan };
-
-    ghost laws = { λ _. T.laws };
-
-    ghost form = { T.form };
-
-    ghost own_tag = { λ _. T.own_tag };
-
-    ghost heads = { T.heads };
-
-    ghost takes_memory = { T.takes_memory };
+    ghost grammar = { λ _. T.grammar };
 
     ghost tight = { T.tight };
 

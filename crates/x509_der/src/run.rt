@@ -22,7 +22,8 @@ pub fn read_run<'a, E: ReadError, T: FromDer<'a, E> + Drop>(
     tries: &mut Tries,
     i: &'a [u8],
 ) -> Result<(&'a [u8], Sequence<T>, bool), Err<E>>
-    ensures reads { ReadsRun E.is_memory T.form T.own_tag T.heads (λ x. (x.0.now, map T.view x.1)) (λ x. x.2) (run T.plan) i.now tries.old tries.new result }
+    ensures reads { ReadsRun E.is_memory T.grammar.form T.grammar.own_tag T.grammar.heads (λ x. (x.0.now, map T.view x.1)) (λ x. x.2) (run T.grammar.plan)
+        i.now tries.old tries.new result }
     // The members are the first elements of the window, and the rest begins where the next one does.
     ensures elements { IfOk result (λ x. (members : List Element) (tail : List ℕ) → Cut i.now members tail → IsBehind i.now members (length x.1) x.0.now) }
 {
@@ -55,8 +56,8 @@ pub fn read_to_end<'a, E: ReadError, T: FromDer<'a, E> + Drop, L: Outside>(
     tries: &mut Tries,
     i: &Window<'a, L>,
 ) -> Result<(Sequence<T>, bool), Refused<E, L>>
-    ensures { ReadsList E.is_memory T.form T.own_tag T.heads (λ x. ([], map T.view x.0)) (λ x. x.1) (to_end (ended_early E.of_list) (run T.plan)) L.adds
-        (bytes_in i.now) (outside_in i.now) tries.old tries.new result }
+    ensures { ReadsList E.is_memory T.grammar.form T.grammar.own_tag T.grammar.heads (λ x. ([], map T.view x.0)) (λ x. x.1)
+        (to_end (ended_early E.of_list) (run T.grammar.plan)) L.adds (bytes_in i.now) (outside_in i.now) tries.old tries.new result }
 {
     let (rest, members, plain) = match read_run(alloc, tries, i.bytes) {
         Ok(read) => read,
@@ -81,8 +82,8 @@ pub fn read_run1<'a, E: ReadError, T: FromDer<'a, E> + Drop, L: Outside>(
     tries: &mut Tries,
     i: &Window<'a, L>,
 ) -> Result<(&'a [u8], Sequence<T>, bool), Refused<E, L>>
-    ensures { ReadsList E.is_memory T.form T.own_tag T.heads (λ x. (x.0.now, map T.view x.1)) (λ x. x.2) (run1 (empty_run E.of_list) T.plan) L.adds
-        (bytes_in i.now) (outside_in i.now) tries.old tries.new result }
+    ensures { ReadsList E.is_memory T.grammar.form T.grammar.own_tag T.grammar.heads (λ x. (x.0.now, map T.view x.1)) (λ x. x.2)
+        (run1 (empty_run E.of_list) T.grammar.plan) L.adds (bytes_in i.now) (outside_in i.now) tries.old tries.new result }
 {
     let (rest, members, plain) = match read_run(alloc, tries, i.bytes) {
         Ok(read) => read,

@@ -118,8 +118,8 @@ pub fn read_set_of<'a, E: ReadError, T: FromDer<'a, E> + Drop, L: Outside>(
     tries: &mut Tries,
     i: &Window<'a, L>,
 ) -> Result<(&'a [u8], SetOf<T>, bool), Refused<E, L>>
-    ensures { ReadsList E.is_memory T.form T.own_tag T.heads (λ x. (x.0.now, map T.view x.1)) (λ x. x.2) (run1 (empty_run E.of_list) T.plan) L.adds
-        (bytes_in i.now) (outside_in i.now) tries.old tries.new result }
+    ensures { ReadsList E.is_memory T.grammar.form T.grammar.own_tag T.grammar.heads (λ x. (x.0.now, map T.view x.1)) (λ x. x.2)
+        (run1 (empty_run E.of_list) T.grammar.plan) L.adds (bytes_in i.now) (outside_in i.now) tries.old tries.new result }
 {
     let (rest, first, plain) = match T::read_marked(alloc, tries, i.bytes) {
         Ok(read) => read,
@@ -162,8 +162,8 @@ fn read_behind<'a, E: ReadError, T: FromDer<'a, E> + Drop>(
     i: &'a [u8],
 ) -> Result<(&'a [u8], SetOf<T>, bool), Err<E>>
     ensures first { IfOk result (λ x. map T.view x.1 ≡ T.view first ∷ drop 1 (map T.view x.1)) }
-    ensures others { ReadsRun E.is_memory T.form T.own_tag T.heads (λ x. (x.0.now, drop 1 (map T.view x.1))) (λ x. x.2) (run T.plan) i.now tries.old tries.new
-        result }
+    ensures others { ReadsRun E.is_memory T.grammar.form T.grammar.own_tag T.grammar.heads (λ x. (x.0.now, drop 1 (map T.view x.1))) (λ x. x.2)
+        (run T.grammar.plan) i.now tries.old tries.new result }
 {
     let (rest, others, marked) = read_run(alloc, tries, i)?;
     match SetOf::with_first(first, others) {

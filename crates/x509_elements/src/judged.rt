@@ -61,7 +61,7 @@ fn judge_as<'a, E: ReadError, T: FromDer<'a, E> + Drop>(
     alloc: Global,
     place: &'a [u8],
 ) -> Result<Judged, AllocError>
-    ensures { MatchResult result (λ j. j ≡ judged_by T.plan place.now) (λ _. ⊤) }
+    ensures { MatchResult result (λ j. j ≡ judged_by T.grammar.plan place.now) (λ _. ⊤) }
 {
     match T::from_der_marked_located(alloc, place) {
         Ok((_, _value, plain)) => Ok(marked(plain)),

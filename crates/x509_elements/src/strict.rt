@@ -95,9 +95,9 @@ fn read_plainly<'a, T: FromDer<'a, X509Error> + Drop>(
     object: Part,
     i: &'a [u8],
 ) -> Result<(&'a [u8], T), StrictRefusal>
-    requires memory { T.takes_memory ≡ true }
-    requires judged { part_judged object i.now i.now ≡ judged_by T.plan i.now }
-    ensures { ReadsPlainly (λ x. (x.0.now, T.view x.1)) T.plan object i.now result }
+    requires memory { T.grammar.takes_memory ≡ true }
+    requires judged { part_judged object i.now i.now ≡ judged_by T.grammar.plan i.now }
+    ensures { ReadsPlainly (λ x. (x.0.now, T.view x.1)) T.grammar.plan object i.now result }
 {
     match Plainly.parse_located(alloc, i) {
         Ok((rest, value)) => Ok((rest, value)),

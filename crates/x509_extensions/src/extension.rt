@@ -1,8 +1,7 @@
 //! One extension.
 
 ghost use Rattle.std.specs.Prelude.{◌≡◌, true};
-ghost use Rattle.x509_der.specs.Primitives.{is_constructed};
-ghost use Rattle.x509_der.specs.Reading.{strict};
+ghost use Rattle.x509_der.specs.Grammar.{allocates, in_sequence};
 ghost use Rattle.x509_extensions.specs.Extension.{Extension, extension_of, extension_heads, extension, extension_laws};
 
 use crate::parsed::ParsedExtension;
@@ -71,19 +70,7 @@ impl<'a> FromDer<'a, X509Error> for X509Extension<'a> {
 
     ghost view = { extension_of };
 
-    ghost plan = { extension true };
-
-    ghost laws = { (extension_laws true).laws.lawful };
-
-    ghost marked = { (extension_laws true).marked };
-
-    ghost form = { strict };
-
-    ghost own_tag = { is_constructed 16 };
-
-    ghost heads = { extension_heads };
-
-    ghost takes_memory = { true };
+    ghost grammar = { in_sequence (extension true) (extension_laws true) extension_heads allocates };
 
     fn read_at<L: Outside>(
         alloc: Global,

@@ -1,6 +1,7 @@
 //! Readers of extensions, which look at the values or leave them alone.
 
 ghost use Rattle.std.specs.Prelude.{◌≡◌, ◌-◌, ⊤, true, length};
+ghost use Rattle.x509_der.specs.Grammar.{allocates, in_sequence};
 ghost use Rattle.x509_der.specs.Place.{at, outside_of};
 ghost use Rattle.x509_der.specs.Primitives.{is_constructed};
 ghost use Rattle.x509_der.specs.Promises.{OneTryEach, ReadsParts};
@@ -63,17 +64,7 @@ impl<'a> Reader<'a, X509Error, X509Extension<'a>> for X509ExtensionParser {
 
     ghost view = { extension_of };
 
-    ghost plan = { λ p. extension p.deep_parse_extensions };
-
-    ghost laws = { λ p. (extension_laws p.deep_parse_extensions).laws.lawful };
-
-    ghost form = { strict };
-
-    ghost own_tag = { λ _. is_constructed 16 };
-
-    ghost heads = { extension_heads };
-
-    ghost takes_memory = { true };
+    ghost grammar = { λ p. in_sequence (extension p.deep_parse_extensions) (extension_laws p.deep_parse_extensions) extension_heads allocates };
 
     ghost is_deep = { λ p. p.deep_parse_extensions };
 

@@ -32,7 +32,7 @@ fn refusal_of<'a, T: FromDer<'a, X509Error> + Drop>(
     alloc: Global,
     value: &'a [u8],
 ) -> Option<Located<X509Error>>
-    ensures { TellsRefusal T.plan value.now result }
+    ensures { TellsRefusal T.grammar.plan value.now result }
 {
     match T::from_der_located(alloc, value) {
         Ok(_) => None,

@@ -1,11 +1,11 @@
 //! Algorithms.
 
-ghost use Rattle.std.specs.Prelude.{◌≡◌, false};
+ghost use Rattle.std.specs.Prelude.{◌≡◌};
+ghost use Rattle.x509_der.specs.Grammar.{borrows, in_sequence};
 ghost use Rattle.x509_der.specs.Oid.{oid_bytes};
-ghost use Rattle.x509_der.specs.Primitives.{is_constructed};
 ghost use Rattle.x509_der.specs.Leaves.{sequence};
 ghost use Rattle.x509_der.specs.Promises.{option_view, OneTryEach};
-ghost use Rattle.x509_der.specs.Reading.{element_of, strict};
+ghost use Rattle.x509_der.specs.Reading.{element_of};
 ghost use Rattle.x509_fields.specs.Algorithm.{Algorithm, algorithm_of, algorithm_heads, algorithm, algorithm_laws};
 
 use crate::error::X509Error;
@@ -59,19 +59,7 @@ impl<'a> FromDer<'a, X509Error> for AlgorithmIdentifier<'a> {
 
     ghost view = { algorithm_of };
 
-    ghost plan = { algorithm };
-
-    ghost laws = { algorithm_laws.laws.lawful };
-
-    ghost marked = { algorithm_laws.marked };
-
-    ghost form = { strict };
-
-    ghost own_tag = { is_constructed 16 };
-
-    ghost heads = { algorithm_heads };
-
-    ghost takes_memory = { false };
+    ghost grammar = { in_sequence algorithm algorithm_laws algorithm_heads borrows };
 
     ghost tight = { OneTryEach sequence };
 

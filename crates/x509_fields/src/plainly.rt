@@ -2,9 +2,9 @@
 
 ghost use Rattle.std.specs.Prelude.{◌≡◌, true};
 ghost use Rattle.x509_der.specs.declared.error.Err.TheVariants.{Error};
+ghost use Rattle.x509_der.proofs.Marked.{plain_only_lawful, plain_only_marked, plain_only_never_memory};
 ghost use Rattle.x509_der.specs.Plan.{got, plain_only};
 ghost use Rattle.x509_fields.specs.declared.error.X509Error.TheVariants as x509;
-ghost use Rattle.x509_der.proofs.Marked.{plain_only_lawful, plain_only_never_memory};
 ghost use Rattle.x509_der.proofs.Strict.{taken_loosely};
 
 use crate::error::X509Error;
@@ -23,24 +23,22 @@ impl<'a, T: FromDer<'a, X509Error> + Drop> Reader<'a, X509Error, T> for Plainly 
 
     ghost view = { T.view };
 
-    ghost plan = { λ _. plain_only (Error x509.Generic) T.plan };
-
-    ghost laws = { λ _. plain_only_lawful (Error x509.Generic) T.plan T.laws T.marked };
-
-    ghost form = { T.form };
-
-    ghost own_tag = { λ _. T.own_tag };
-
-    ghost heads = { T.heads };
-
-    ghost takes_memory = { T.takes_memory };
+    ghost grammar = { λ _. record {
+      plan = plain_only (Error x509.Generic) T.grammar.plan;
+      lawful = plain_only_lawful (Error x509.Generic) T.grammar.plan T.grammar.lawful T.grammar.marked;
+      marked = plain_only_marked (Error x509.Generic) T.grammar.plan T.grammar.lawful T.grammar.marked;
+      form = T.grammar.form;
+      own_tag = T.grammar.own_tag;
+      heads = T.grammar.heads;
+      takes_memory = T.grammar.takes_memory;
+    } };
 
     ghost unread = { λ _. 0 };
 
     // What is taken is a sentence of the type's grammar, with the same value.
-    ghost stands = { λ _ bytes value rest. T.plan.read bytes ≡ got value rest };
+    ghost stands = { λ _ bytes value rest. T.grammar.plan.read bytes ≡ got value rest };
 
-    ghost stands_where = { λ _ bytes value rest _ read. taken_loosely true (Error x509.Generic) T.plan bytes value rest read };
+    ghost stands_where = { λ _ bytes value rest _ read. taken_loosely true (Error x509.Generic) T.grammar.plan bytes value rest read };
 
     ghost refused_where = { λ _ _ _ _ _ _. tt };
 
@@ -57,5 +55,5 @@ impl<'a, T: FromDer<'a, X509Error> + Drop> Reader<'a, X509Error, T> for Plainly 
         Ok((value, plain))
     }
 
-    ghost never_memory = { λ _. plain_only_never_memory is_x509_memory x509.Generic T.plan T.never_memory };
+    ghost never_memory = { λ _. plain_only_never_memory is_x509_memory x509.Generic T.grammar.plan T.never_memory };
 }

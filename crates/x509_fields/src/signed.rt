@@ -45,7 +45,7 @@ pub fn read_signed<'a, T: Drop, R: Reader<'a, X509Error, T>, L: Outside>(
     tries: &mut Tries,
     place: &Place<'a, L>,
 ) -> Result<(Signed<'a, T>, bool), Refused<X509Error, L>>
-    ensures reads { ReadsAt is_x509_memory R.takes_memory strict (is_constructed 16) (signed_heads R.heads) (signed_of R.view) (signed (R.plan part.now))
+    ensures reads { ReadsAt is_x509_memory (R.grammar part.now).takes_memory strict (is_constructed 16) (signed_heads (R.grammar part.now).heads) (signed_of R.view) (signed (R.grammar part.now).plan)
         L.adds (at place.now) (outside_of place.now) tries.old tries.new result }
     ensures shallow { R.is_deep part.now ≡ false
         → IfOk result (λ x. tries.new + 9 + 8 * R.unread (R.view x.0.tbs) + 8 * length (behind (at place.now)) ≤ tries.old + 8 * length (at place.now)) }

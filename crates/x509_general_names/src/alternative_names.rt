@@ -1,6 +1,7 @@
 //! Other names of a subject and of an issuer.
 
 ghost use Rattle.std.specs.Prelude.{◌≤◌, ◌+◌, List, [], map, true};
+ghost use Rattle.x509_der.specs.Grammar.{allocates, in_sequence};
 ghost use Rattle.x509_der.specs.Place.{at, outside_of, outside_in};
 ghost use Rattle.x509_der.specs.Primitives.{is_constructed};
 ghost use Rattle.x509_der.specs.Promises.{ReadsAt, GivesAt};
@@ -37,19 +38,7 @@ impl<'a> FromDer<'a, X509Error> for SubjectAlternativeName<'a> {
 
     ghost view = { subject_names_of };
 
-    ghost plan = { general_names };
-
-    ghost laws = { general_names_laws.laws.lawful };
-
-    ghost marked = { general_names_laws.marked };
-
-    ghost form = { strict };
-
-    ghost own_tag = { is_constructed 16 };
-
-    ghost heads = { general_names_heads };
-
-    ghost takes_memory = { true };
+    ghost grammar = { in_sequence general_names general_names_laws general_names_heads allocates };
 
     fn read_at<L: Outside>(
         alloc: Global,
@@ -88,19 +77,7 @@ impl<'a> FromDer<'a, X509Error> for IssuerAlternativeName<'a> {
 
     ghost view = { issuer_names_of };
 
-    ghost plan = { general_names };
-
-    ghost laws = { general_names_laws.laws.lawful };
-
-    ghost marked = { general_names_laws.marked };
-
-    ghost form = { strict };
-
-    ghost own_tag = { is_constructed 16 };
-
-    ghost heads = { general_names_heads };
-
-    ghost takes_memory = { true };
+    ghost grammar = { in_sequence general_names general_names_laws general_names_heads allocates };
 
     fn read_at<L: Outside>(
         alloc: Global,

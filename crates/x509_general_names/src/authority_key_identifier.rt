@@ -1,8 +1,6 @@
 //! Which key of an issuer signed.
 
-ghost use Rattle.std.specs.Prelude.{true};
-ghost use Rattle.x509_der.specs.Primitives.{is_constructed};
-ghost use Rattle.x509_der.specs.Reading.{strict};
+ghost use Rattle.x509_der.specs.Grammar.{allocates, in_sequence};
 ghost use Rattle.x509_general_names.specs.AuthorityKeyIdentifier.{AuthorityKeyIdentifierValue, authority_key_identifier_of, authority_key_identifier};
 ghost use Rattle.x509_general_names.specs.AuthorityKeyIdentifier.{authority_key_identifier_heads, authority_key_identifier_laws};
 
@@ -40,19 +38,7 @@ impl<'a> FromDer<'a, X509Error> for AuthorityKeyIdentifier<'a> {
 
     ghost view = { authority_key_identifier_of };
 
-    ghost plan = { authority_key_identifier };
-
-    ghost laws = { authority_key_identifier_laws.laws.lawful };
-
-    ghost marked = { authority_key_identifier_laws.marked };
-
-    ghost form = { strict };
-
-    ghost own_tag = { is_constructed 16 };
-
-    ghost heads = { authority_key_identifier_heads };
-
-    ghost takes_memory = { true };
+    ghost grammar = { in_sequence authority_key_identifier authority_key_identifier_laws authority_key_identifier_heads allocates };
 
     #[tactic(auto, unfolding(crate::specs::AuthorityKeyIdentifier::authority_key_identifier), using(x509_der::proofs::Steps::marks_of_fields))]
     fn read_at<L: Outside>(

@@ -1,6 +1,7 @@
 //! The names of distribution points.
 
 ghost use Rattle.std.specs.Prelude.{◌≡◌, ◌≤◌, ◌+◌, ◌*◌, true, length, IfOk};
+ghost use Rattle.x509_der.specs.Grammar.{allocates, in_element};
 ghost use Rattle.x509_der.specs.Place.{at, outside_of, bytes_in, outside_in};
 ghost use Rattle.x509_der.specs.Primitives.{is_constructed, is_explicit};
 ghost use Rattle.x509_der.specs.Reading.{AddsAtLeast, strict};
@@ -46,19 +47,7 @@ impl<'a> FromDer<'a, X509Error> for DistributionPointName<'a> {
 
     ghost view = { point_name_of };
 
-    ghost plan = { distribution_point_name };
-
-    ghost laws = { distribution_point_name_laws.laws.lawful };
-
-    ghost marked = { distribution_point_name_laws.marked };
-
-    ghost form = { strict };
-
-    ghost own_tag = { is_explicit 0 };
-
-    ghost heads = { distribution_point_name_heads };
-
-    ghost takes_memory = { true };
+    ghost grammar = { in_element strict (is_explicit 0) distribution_point_name distribution_point_name_laws distribution_point_name_heads allocates };
 
     #[tactic(auto, unfolding(crate::specs::DistributionPointName::distribution_point_name, x509_der::specs::Leaves::explicit, x509_der::specs::Primitives::contents_at), using(x509_der::proofs::Marking::marks_of_readers))]
     fn read_at<L: Outside>(

@@ -1,8 +1,7 @@
 //! Where lists of revoked certificates are found.
 
-ghost use Rattle.std.specs.Prelude.{◌≡◌, List, true};
-ghost use Rattle.x509_der.specs.Primitives.{is_constructed};
-ghost use Rattle.x509_der.specs.Reading.{strict};
+ghost use Rattle.std.specs.Prelude.{◌≡◌, List};
+ghost use Rattle.x509_der.specs.Grammar.{allocates, in_sequence};
 ghost use Rattle.x509_general_names.specs.DistributionPoints.{Point, point_of, points_of, crl_distribution_point, crl_distribution_points, point_heads};
 ghost use Rattle.x509_general_names.specs.DistributionPoints.{points_heads, crl_distribution_point_laws, crl_distribution_points_laws};
 
@@ -44,19 +43,7 @@ impl<'a> FromDer<'a, X509Error> for CRLDistributionPoint<'a> {
 
     ghost view = { point_of };
 
-    ghost plan = { crl_distribution_point };
-
-    ghost laws = { crl_distribution_point_laws.laws.lawful };
-
-    ghost marked = { crl_distribution_point_laws.marked };
-
-    ghost form = { strict };
-
-    ghost own_tag = { is_constructed 16 };
-
-    ghost heads = { point_heads };
-
-    ghost takes_memory = { true };
+    ghost grammar = { in_sequence crl_distribution_point crl_distribution_point_laws point_heads allocates };
 
     #[tactic(auto, unfolding(crate::specs::DistributionPoints::crl_distribution_point), using(x509_der::proofs::Marking::marks_of_readers))]
     fn read_at<L: Outside>(
@@ -118,19 +105,7 @@ impl<'a> FromDer<'a, X509Error> for CRLDistributionPoints<'a> {
 
     ghost view = { points_of };
 
-    ghost plan = { crl_distribution_points };
-
-    ghost laws = { crl_distribution_points_laws.laws.lawful };
-
-    ghost marked = { crl_distribution_points_laws.marked };
-
-    ghost form = { strict };
-
-    ghost own_tag = { is_constructed 16 };
-
-    ghost heads = { points_heads };
-
-    ghost takes_memory = { true };
+    ghost grammar = { in_sequence crl_distribution_points crl_distribution_points_laws points_heads allocates };
 
     #[tactic(auto, unfolding(crate::specs::DistributionPoints::crl_distribution_points), using(x509_der::proofs::Marking::marks_of_readers))]
     fn read_at<L: Outside>(

@@ -1,7 +1,8 @@
 //! General names.
 
-ghost use Rattle.std.specs.Prelude.{◌≡◌, ◌≤◌, ◌+◌, ◌-◌, ◌*◌, Some, Ok, IfOk, IfSome, IsErr, length, true};
+ghost use Rattle.std.specs.Prelude.{◌≡◌, ◌≤◌, ◌+◌, ◌-◌, ◌*◌, Some, Ok, IfOk, IfSome, IsErr, length};
 ghost use Rattle.std.specs.Option.{is_some};
+ghost use Rattle.x509_der.specs.Grammar.{allocates, in_element};
 ghost use Rattle.x509_der.specs.Hex.{hex_text};
 ghost use Rattle.x509_der.specs.Plan.{reads_inside};
 ghost use Rattle.x509_der.specs.Primitives.{is_context};
@@ -101,19 +102,7 @@ impl<'a> FromDer<'a, X509Error> for GeneralName<'a> {
 
     ghost view = { general_name_of };
 
-    ghost plan = { general_name };
-
-    ghost laws = { general_name_laws.laws.lawful };
-
-    ghost marked = { general_name_laws.marked };
-
-    ghost form = { strict };
-
-    ghost own_tag = { λ h. is_context h.class };
-
-    ghost heads = { general_name_heads };
-
-    ghost takes_memory = { true };
+    ghost grammar = { in_element strict (λ h. is_context h.class) general_name general_name_laws general_name_heads allocates };
 
     #[tactic(auto, unfolding(crate::specs::GeneralName::general_name), using(crate::proofs::Elements::context_plain))]
     fn read_at<L: Outside>(

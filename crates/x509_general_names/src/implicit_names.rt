@@ -1,6 +1,7 @@
 //! General names under a context tag.
 
-ghost use Rattle.std.specs.Prelude.{List, true, ⊤};
+ghost use Rattle.std.specs.Prelude.{List, ⊤};
+ghost use Rattle.x509_der.specs.Grammar.{allocates, in_element};
 ghost use Rattle.x509_der.specs.Primitives.{is_context, is_implicit};
 ghost use Rattle.x509_der.specs.Reading.{strict};
 ghost use Rattle.x509_fields.specs.Errors.{is_x509_memory};
@@ -29,17 +30,7 @@ impl<'a> Reader<'a, X509Error, Sequence<GeneralName<'a>>> for ImplicitNames {
 
     ghost view = { names_of };
 
-    ghost plan = { λ s. implicit_names s.number };
-
-    ghost laws = { λ s. (implicit_names_laws s.number).laws.lawful };
-
-    ghost form = { strict };
-
-    ghost own_tag = { λ s. is_implicit s.number };
-
-    ghost heads = { general_names_heads };
-
-    ghost takes_memory = { true };
+    ghost grammar = { λ s. in_element strict (is_implicit s.number) (implicit_names s.number) (implicit_names_laws s.number) general_names_heads allocates };
 
     ghost unread = { λ _. 0 };
 
@@ -75,17 +66,7 @@ impl<'a> Reader<'a, X509Error, Sequence<GeneralName<'a>>> for SomeNames {
 
     ghost view = { names_of };
 
-    ghost plan = { λ s. implicit_some_names s.number };
-
-    ghost laws = { λ s. (implicit_some_names_laws s.number).laws.lawful };
-
-    ghost form = { strict };
-
-    ghost own_tag = { λ s. is_implicit s.number };
-
-    ghost heads = { general_names_heads };
-
-    ghost takes_memory = { true };
+    ghost grammar = { λ s. in_element strict (is_implicit s.number) (implicit_some_names s.number) (implicit_some_names_laws s.number) general_names_heads allocates };
 
     ghost unread = { λ _. 0 };
 

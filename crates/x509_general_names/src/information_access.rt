@@ -1,6 +1,7 @@
 //! Where more about an issuer or a subject is found.
 
 ghost use Rattle.std.specs.Prelude.{◌≡◌, List, map, true};
+ghost use Rattle.x509_der.specs.Grammar.{allocates, in_sequence};
 ghost use Rattle.x509_der.specs.Iterating.{Iterates};
 ghost use Rattle.x509_der.specs.Place.{at, outside_of};
 ghost use Rattle.x509_der.specs.Primitives.{is_constructed};
@@ -56,19 +57,7 @@ impl<'a> FromDer<'a, X509Error> for AccessDescription<'a> {
 
     ghost view = { access_of };
 
-    ghost plan = { access_description };
-
-    ghost laws = { access_description_laws.laws.lawful };
-
-    ghost marked = { access_description_laws.marked };
-
-    ghost form = { strict };
-
-    ghost own_tag = { is_constructed 16 };
-
-    ghost heads = { access_heads };
-
-    ghost takes_memory = { true };
+    ghost grammar = { in_sequence access_description access_description_laws access_heads allocates };
 
     #[tactic(auto, unfolding(crate::specs::InformationAccess::access_description), using(x509_der::proofs::Marking::marks_of_readers))]
     fn read_at<L: Outside>(
@@ -159,19 +148,7 @@ impl<'a> FromDer<'a, X509Error> for AuthorityInfoAccess<'a> {
 
     ghost view = { authority_accesses_of };
 
-    ghost plan = { information_access };
-
-    ghost laws = { information_access_laws.laws.lawful };
-
-    ghost marked = { information_access_laws.marked };
-
-    ghost form = { strict };
-
-    ghost own_tag = { is_constructed 16 };
-
-    ghost heads = { information_access_heads };
-
-    ghost takes_memory = { true };
+    ghost grammar = { in_sequence information_access information_access_laws information_access_heads allocates };
 
     fn read_at<L: Outside>(
         alloc: Global,
@@ -248,19 +225,7 @@ impl<'a> FromDer<'a, X509Error> for SubjectInfoAccess<'a> {
 
     ghost view = { subject_accesses_of };
 
-    ghost plan = { information_access };
-
-    ghost laws = { information_access_laws.laws.lawful };
-
-    ghost marked = { information_access_laws.marked };
-
-    ghost form = { strict };
-
-    ghost own_tag = { is_constructed 16 };
-
-    ghost heads = { information_access_heads };
-
-    ghost takes_memory = { true };
+    ghost grammar = { in_sequence information_access information_access_laws information_access_heads allocates };
 
     fn read_at<L: Outside>(
         alloc: Global,

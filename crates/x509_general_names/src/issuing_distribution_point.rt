@@ -1,8 +1,6 @@
 //! What a list of revoked certificates covers.
 
-ghost use Rattle.std.specs.Prelude.{true};
-ghost use Rattle.x509_der.specs.Primitives.{is_constructed};
-ghost use Rattle.x509_der.specs.Reading.{strict};
+ghost use Rattle.x509_der.specs.Grammar.{allocates, in_sequence};
 ghost use Rattle.x509_general_names.specs.IssuingDistributionPoint.{IssuingPoint, issuing_point_of, issuing_distribution_point, issuing_point_heads};
 ghost use Rattle.x509_general_names.specs.IssuingDistributionPoint.{issuing_distribution_point_laws};
 
@@ -50,19 +48,7 @@ impl<'a> FromDer<'a, X509Error> for IssuingDistributionPoint<'a> {
 
     ghost view = { issuing_point_of };
 
-    ghost plan = { issuing_distribution_point };
-
-    ghost laws = { issuing_distribution_point_laws.laws.lawful };
-
-    ghost marked = { issuing_distribution_point_laws.marked };
-
-    ghost form = { strict };
-
-    ghost own_tag = { is_constructed 16 };
-
-    ghost heads = { issuing_point_heads };
-
-    ghost takes_memory = { true };
+    ghost grammar = { in_sequence issuing_distribution_point issuing_distribution_point_laws issuing_point_heads allocates };
 
     #[tactic(auto, unfolding(crate::specs::IssuingDistributionPoint::issuing_distribution_point), using(x509_der::proofs::Marking::marks_of_readers))]
     fn read_at<L: Outside>(

@@ -1,10 +1,9 @@
 //! Identifiers of keys.
 
-ghost use Rattle.std.specs.Prelude.{List, ℕ, Some, codes, false};
+ghost use Rattle.std.specs.Prelude.{List, ℕ, Some, codes};
 ghost use Rattle.std.specs.Fmt.{DisplaysOnOk};
+ghost use Rattle.x509_der.specs.Grammar.{in_primitive};
 ghost use Rattle.x509_der.specs.Hex.{hex_text};
-ghost use Rattle.x509_der.specs.Primitives.{is_primitive};
-ghost use Rattle.x509_der.specs.Reading.{strict};
 ghost use Rattle.x509_general_names.specs.KeyIdentifier.{key_identifier_of, key_identifier, key_identifier_laws};
 
 use std::alloc::Global;
@@ -31,19 +30,7 @@ impl<'a> FromDer<'a, X509Error> for KeyIdentifier<'a> {
 
     ghost view = { key_identifier_of };
 
-    ghost plan = { key_identifier };
-
-    ghost laws = { key_identifier_laws.laws.lawful };
-
-    ghost marked = { key_identifier_laws.marked };
-
-    ghost form = { strict };
-
-    ghost own_tag = { is_primitive 4 };
-
-    ghost heads = { λ _. 1 };
-
-    ghost takes_memory = { false };
+    ghost grammar = { in_primitive 4 key_identifier key_identifier_laws };
 
     #[tactic(auto, unfolding(crate::specs::KeyIdentifier::key_identifier, x509_der::specs::Leaves::octets, x509_der::specs::Primitives::contents_at), using(x509_der::proofs::Marking::marks_of_readers))]
     fn read_at<L: Outside>(

@@ -1,7 +1,8 @@
 //! Which names a certification authority may certify.
 
-ghost use Rattle.std.specs.Prelude.{List, true, ⊤};
-ghost use Rattle.x509_der.specs.Primitives.{is_constructed, is_explicit};
+ghost use Rattle.std.specs.Prelude.{List, ⊤};
+ghost use Rattle.x509_der.specs.Grammar.{allocates, in_sequence, in_element};
+ghost use Rattle.x509_der.specs.Primitives.{is_explicit};
 ghost use Rattle.x509_der.specs.Reading.{strict};
 ghost use Rattle.x509_general_names.specs.GeneralName.{GeneralNameValue};
 ghost use Rattle.x509_general_names.specs.NameConstraints.{subtree_of, subtrees_of, Constraints, constraints_of, general_subtree, general_subtrees};
@@ -56,19 +57,7 @@ impl<'a> FromDer<'a, X509Error> for NameConstraints<'a> {
 
     ghost view = { constraints_of };
 
-    ghost plan = { name_constraints };
-
-    ghost laws = { name_constraints_laws.laws.lawful };
-
-    ghost marked = { name_constraints_laws.marked };
-
-    ghost form = { strict };
-
-    ghost own_tag = { is_constructed 16 };
-
-    ghost heads = { constraints_heads };
-
-    ghost takes_memory = { true };
+    ghost grammar = { in_sequence name_constraints name_constraints_laws constraints_heads allocates };
 
     #[tactic(auto, unfolding(crate::specs::NameConstraints::name_constraints), using(x509_der::proofs::Marking::marks_of_readers))]
     fn read_at<L: Outside>(
@@ -106,19 +95,7 @@ impl<'a> FromDer<'a, X509Error> for GeneralSubtree<'a> {
 
     ghost view = { subtree_of };
 
-    ghost plan = { general_subtree };
-
-    ghost laws = { general_subtree_laws.laws.lawful };
-
-    ghost marked = { general_subtree_laws.marked };
-
-    ghost form = { strict };
-
-    ghost own_tag = { is_constructed 16 };
-
-    ghost heads = { subtree_heads };
-
-    ghost takes_memory = { true };
+    ghost grammar = { in_sequence general_subtree general_subtree_laws subtree_heads allocates };
 
     #[tactic(auto, unfolding(crate::specs::NameConstraints::general_subtree), using(x509_der::proofs::Marking::marks_of_readers))]
     fn read_at<L: Outside>(
@@ -152,17 +129,7 @@ impl<'a> Reader<'a, X509Error, Sequence<GeneralSubtree<'a>>> for Subtrees {
 
     ghost view = { subtrees_of };
 
-    ghost plan = { λ s. general_subtrees s.number };
-
-    ghost laws = { λ s. (general_subtrees_laws s.number).laws.lawful };
-
-    ghost form = { strict };
-
-    ghost own_tag = { λ s. is_explicit s.number };
-
-    ghost heads = { subtrees_heads };
-
-    ghost takes_memory = { true };
+    ghost grammar = { λ s. in_element strict (is_explicit s.number) (general_subtrees s.number) (general_subtrees_laws s.number) subtrees_heads allocates };
 
     ghost unread = { λ _. 0 };
 

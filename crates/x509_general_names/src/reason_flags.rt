@@ -1,9 +1,10 @@
 //! Why certificates are revoked.
 
-ghost use Rattle.std.specs.Prelude.{◌≡◌, ◌<◌, ℕ, Some, IfOk, IfSome, true, false};
+ghost use Rattle.std.specs.Prelude.{◌≡◌, ◌<◌, ℕ, Some, IfOk, IfSome, true};
 ghost use Rattle.x509_der.specs.Fields.{next_of, plain_in, StepsSoftLeaf, outer_of};
+ghost use Rattle.x509_der.specs.Grammar.{in_primitive};
 ghost use Rattle.x509_der.specs.Place.{at, outside_of};
-ghost use Rattle.x509_der.specs.Primitives.{is_explicit, is_primitive};
+ghost use Rattle.x509_der.specs.Primitives.{is_explicit};
 ghost use Rattle.x509_der.specs.Promises.{IsForeign, ReadsLeaf, option_view};
 ghost use Rattle.x509_der.specs.Reading.{strict};
 ghost use Rattle.x509_fields.specs.Flags.{has_bit};
@@ -133,19 +134,7 @@ impl<'a> FromDer<'a, X509Error> for ReasonFlags {
 
     ghost view = { reason_flags_of };
 
-    ghost plan = { reason_flags };
-
-    ghost laws = { reason_flags_laws.laws.lawful };
-
-    ghost marked = { reason_flags_laws.marked };
-
-    ghost form = { strict };
-
-    ghost own_tag = { is_primitive 3 };
-
-    ghost heads = { λ _. 1 };
-
-    ghost takes_memory = { false };
+    ghost grammar = { in_primitive 3 reason_flags reason_flags_laws };
 
     #[tactic(auto, unfolding(crate::specs::ReasonFlags::reason_flags, x509_der::specs::Leaves::bits, x509_der::specs::Primitives::contents_at), using(x509_der::proofs::Marking::marks_of_readers))]
     fn read_at<L: Outside>(

@@ -1,8 +1,6 @@
 //! The signatures of ECDSA.
 
-ghost use Rattle.std.specs.Prelude.{false};
-ghost use Rattle.x509_der.specs.Primitives.{is_constructed};
-ghost use Rattle.x509_der.specs.Reading.{strict};
+ghost use Rattle.x509_der.specs.Grammar.{borrows, in_sequence};
 ghost use Rattle.x509_keys.specs.EcdsaSigValue.{EcdsaValue, ecdsa_value_of, ecdsa_sig_value, ecdsa_value_heads, ecdsa_sig_value_laws};
 
 use std::alloc::Global;
@@ -29,19 +27,7 @@ impl<'a> FromDer<'a, BerError> for EcdsaSigValue<'a> {
 
     ghost view = { ecdsa_value_of };
 
-    ghost plan = { ecdsa_sig_value };
-
-    ghost laws = { ecdsa_sig_value_laws.laws.lawful };
-
-    ghost marked = { ecdsa_sig_value_laws.marked };
-
-    ghost form = { strict };
-
-    ghost own_tag = { is_constructed 16 };
-
-    ghost heads = { ecdsa_value_heads };
-
-    ghost takes_memory = { false };
+    ghost grammar = { in_sequence ecdsa_sig_value ecdsa_sig_value_laws ecdsa_value_heads borrows };
 
     #[tactic(auto, unfolding(crate::specs::EcdsaSigValue::ecdsa_sig_value), using(x509_der::proofs::Marking::marks_of_readers))]
     fn read_at<L: Outside>(

@@ -1,8 +1,9 @@
 //! Public keys with their algorithms.
 
-ghost use Rattle.std.specs.Prelude.{◌≡◌, Result, false};
-ghost use Rattle.x509_der.specs.Primitives.{is_constructed, is_primitive};
-ghost use Rattle.x509_der.specs.Reading.{Gives, element_of, strict};
+ghost use Rattle.std.specs.Prelude.{◌≡◌, Result};
+ghost use Rattle.x509_der.specs.Grammar.{borrows, in_sequence};
+ghost use Rattle.x509_der.specs.Primitives.{is_primitive};
+ghost use Rattle.x509_der.specs.Reading.{Gives, element_of};
 ghost use Rattle.x509_keys.specs.KeyInfo.{KeyInfo, key_info_of, key_info, key_info_heads};
 ghost use Rattle.x509_keys.specs.KeySizes.{algorithm_in, curve_in, size_in, size_of_key};
 ghost use Rattle.x509_keys.specs.Laws.{key_info_laws};
@@ -141,19 +142,7 @@ impl<'a> FromDer<'a, X509Error> for SubjectPublicKeyInfo<'a> {
 
     ghost view = { key_info_of };
 
-    ghost plan = { key_info };
-
-    ghost laws = { key_info_laws.laws.lawful };
-
-    ghost marked = { key_info_laws.marked };
-
-    ghost form = { strict };
-
-    ghost own_tag = { is_constructed 16 };
-
-    ghost heads = { key_info_heads };
-
-    ghost takes_memory = { false };
+    ghost grammar = { in_sequence key_info key_info_laws key_info_heads borrows };
 
     #[inline(always)]
     #[tactic(auto, unfolding(crate::specs::KeyInfo::key_info), using(x509_der::proofs::Marking::marks_of_readers))]

@@ -2,6 +2,7 @@
 
 ghost use Rattle.std.specs.Prelude.{◌≡◌, ◌≤◌, false, length};
 ghost use Rattle.std.specs.Int.Digits.{number_from_digits};
+ghost use Rattle.x509_der.specs.Grammar.{borrows, in_sequence};
 ghost use Rattle.x509_der.specs.Primitives.{is_constructed};
 ghost use Rattle.x509_der.specs.Place.{at, outside_of};
 ghost use Rattle.x509_der.specs.Promises.{ReadsAt};
@@ -100,19 +101,7 @@ impl<'a> FromDer<'a, X509Error> for RSAPublicKey<'a> {
 
     ghost view = { rsa_key_of };
 
-    ghost plan = { rsa_public_key };
-
-    ghost laws = { rsa_public_key_laws.laws.lawful };
-
-    ghost marked = { rsa_public_key_laws.marked };
-
-    ghost form = { strict };
-
-    ghost own_tag = { is_constructed 16 };
-
-    ghost heads = { rsa_key_heads };
-
-    ghost takes_memory = { false };
+    ghost grammar = { in_sequence rsa_public_key rsa_public_key_laws rsa_key_heads borrows };
 
     fn read_at<L: Outside>(
         _alloc: Global,

@@ -47,11 +47,10 @@ pub read_with_rest : (rest : List ℕ) (said : List GeneralNameValue) → nothin
 read_with_rest rest said more = ap (λ b. cond b (names said) unreadable) more
 
 -- what was found of an entry that was read, in the words of its value
-pub is_of_read : (issuer : List ℕ) (before now : Bool) (entry : Revoked) (read : RevokedCertificate) (name : List ℕ) (xs : List X509Extension) → revoked_of read ≡ entry → name ≡ issuer → xs ≡ read.extensions
-    → is_of name before (said_by (map extension_of xs)) ≡ Some now → is_of issuer before (said_by entry.extensions) ≡ Some now
-is_of_read issuer before now entry read name xs same named is found =
-    ap (λ (r : Revoked). is_of issuer before (said_by r.extensions)) (sym same) ∙ ap (λ (i : List ℕ). is_of i before (said_by (map extension_of read.extensions))) (sym named)
-    ∙ ap (λ (xs : List X509Extension). is_of name before (said_by (map extension_of xs))) (sym is) ∙ found
+pub is_of_read : (issuer : List ℕ) (before now : Bool) (entry : Revoked) (read : RevokedCertificate) (name : List ℕ) → revoked_of read ≡ entry → name ≡ issuer
+    → is_of name before (said_by (revoked_of read).extensions) ≡ Some now → is_of issuer before (said_by entry.extensions) ≡ Some now
+is_of_read issuer before now entry read name same named found =
+    ap (λ (r : Revoked). is_of issuer before (said_by r.extensions)) (sym same) ∙ ap (λ (i : List ℕ). is_of i before (said_by (revoked_of read).extensions)) (sym named) ∙ found
 
 pub has_number : (number : ℕ) (has : Bool) (entry : Revoked) (read : RevokedCertificate) → revoked_of read ≡ entry → has ≡ (unsigned_number read.user_certificate == number) → has ≡ (number_from_digits 256 entry.serial == number)
 has_number number has entry read same is = is ∙ ap (λ (r : Revoked). number_from_digits 256 r.serial == number) same

@@ -1,7 +1,7 @@
 -- Lists of revoked certificates (RFC 5280, 5.1).
 use Rattle.std.specs.Prelude.{ℕ, List, map}
 use Rattle.x509_der.specs.declared.error.Err.TheVariants.{Error}
-use Rattle.x509_der.specs.Laws.{IsElement, IsMarkedElement}
+use Rattle.x509_der.specs.Laws.{IsMarkedElement}
 use Rattle.x509_der.specs.Plan.{plain_only}
 use Rattle.x509_der.specs.Primitives.{bit_string}
 use Rattle.x509_der.proofs.Marked.{plain_only_laws}
@@ -48,5 +48,5 @@ pub certificate_list_laws : IsMarkedElement is_x509_memory certificate_list
 unfolding certificate_list
 certificate_list_laws = signed_laws tbs_list tbs_list_laws
 
-pub plain_list_laws : IsElement is_x509_memory plain_list
-plain_list_laws = plain_only_laws is_x509_memory x509.Generic certificate_list certificate_list_laws.laws certificate_list_laws.marked
+pub plain_list_laws : IsMarkedElement is_x509_memory plain_list
+plain_list_laws = plain_only_laws is_x509_memory x509.Generic certificate_list certificate_list_laws

@@ -26,6 +26,11 @@ pub data Said : Type 0 where
   names : List GeneralNameValue → Said
   unreadable : Said
 
+-- by names, where some stand there
+abbrev pub said_of : Option (List GeneralNameValue) → Said
+said_of None = nothing
+said_of (Some said) = names said
+
 -- CertificateIssuer ::= GeneralNames, with nothing behind them
 abbrev pub names_read : Outcome (Refusal X509Error) (List GeneralNameValue) → Said
 names_read (Ok x) = cond (nothing_left x.0) (names x.1) unreadable

@@ -1,9 +1,8 @@
 //! Lists of revoked certificates.
 
-ghost use Rattle.std.specs.Prelude.{◌≡◌, true};
+ghost use Rattle.std.specs.Prelude.{◌≡◌};
+ghost use Rattle.x509_der.specs.Grammar.{allocates, in_sequence};
 ghost use Rattle.x509_der.specs.Iterating.{Iterates};
-ghost use Rattle.x509_der.specs.Primitives.{is_constructed};
-ghost use Rattle.x509_der.specs.Reading.{strict};
 ghost use Rattle.x509_fields.specs.Signed.{Signed};
 ghost use Rattle.x509_lists.specs.CertificateList.{certificate_list, certificate_list_laws, list_heads, list_of};
 ghost use Rattle.x509_lists.specs.ListEntries.{list_entries_of};
@@ -124,19 +123,7 @@ impl<'a> FromDer<'a, X509Error> for CertificateRevocationList<'a> {
 
     ghost view = { list_of };
 
-    ghost plan = { certificate_list };
-
-    ghost laws = { certificate_list_laws.laws.lawful };
-
-    ghost marked = { certificate_list_laws.marked };
-
-    ghost form = { strict };
-
-    ghost own_tag = { is_constructed 16 };
-
-    ghost heads = { list_heads };
-
-    ghost takes_memory = { true };
+    ghost grammar = { in_sequence certificate_list certificate_list_laws list_heads allocates };
 
     #[tactic(auto, unfolding(crate::specs::CertificateList::certificate_list))]
     fn read_at<L: Outside>(
@@ -171,19 +158,7 @@ impl<'a> FromDer<'a, X509Error> for CertificateListEntries<'a> {
 
     ghost view = { list_entries_of };
 
-    ghost plan = { certificate_list };
-
-    ghost laws = { certificate_list_laws.laws.lawful };
-
-    ghost marked = { certificate_list_laws.marked };
-
-    ghost form = { strict };
-
-    ghost own_tag = { is_constructed 16 };
-
-    ghost heads = { list_heads };
-
-    ghost takes_memory = { true };
+    ghost grammar = { in_sequence certificate_list certificate_list_laws list_heads allocates };
 
     #[tactic(auto, unfolding(crate::specs::CertificateList::certificate_list))]
     fn read_at<L: Outside>(

@@ -1,21 +1,20 @@
 //! The entry of an issuer's serial on an indirect list.
 
-ghost use Rattle.std.specs.Prelude.{◌≡◌, ◌⊎◌, Some, None, map, MatchResult};
+ghost use Rattle.std.specs.Prelude.{◌≡◌, ◌⊎◌, Some, None, map, option_map, MatchResult};
 ghost use Rattle.std.specs.List.{list_any};
 ghost use Rattle.x509_der.specs.Unsigned.{unsigned_number};
-ghost use Rattle.x509_extensions.specs.Extension.{extension_of};
 ghost use Rattle.x509_fields.specs.declared.error.X509Error.TheVariants.{InvalidExtensions, OutOfMemory};
 ghost use Rattle.x509_general_names.specs.GeneralName.{general_name_of};
-ghost use Rattle.x509_lists.specs.EntryIssuers.{FindsFor, IsFoundFor, IsPlace, is_name, is_of, place_on, said_by};
+ghost use Rattle.x509_lists.specs.EntryIssuers.{FindsFor, IsFoundFor, IsPlace, is_name, is_of, place_on, said_by, said_of, unreadable};
 ghost use Rattle.x509_lists.specs.ListEntries.{tbs_entries_of};
+ghost use Rattle.x509_lists.specs.RevokedCertificate.{revoked_of};
 ghost use Rattle.x509_lists.specs.TbsCertList.{tbs_list_of};
 ghost use Rattle.x509_names.specs.Names.{name_of};
 
 use crate::revoked_certificate::RevokedCertificate;
 use crate::tbs_cert_list::{TbsCertList, TbsCertListEntries};
 use std::alloc::Global;
-use x509_der::{FromDer, Oid, Tries, UnsignedBytes};
-use x509_extensions::X509Extension;
+use x509_der::{FromDer, Oid, Sequence, Tries, UnsignedBytes};
 use x509_fields::X509Error;
 use x509_general_names::{GeneralName, SubjectAlternativeName};
 use x509_names::X509Name;
@@ -40,34 +39,55 @@ fn are_of(names: &[GeneralName<'_>], issuer: &[u8]) -> bool
     names.iter().any(|name| is_name(name, issuer))
 }
 
-/// Whether an entry with these extensions is of this issuer, where the entry before it is, or isn't.
+impl<'a> RevokedCertificate<'a> {
+    /// The names of the issuer of this certificate, and of those of the entries behind it up to the next that names its own
+    /// (certificateIssuer; RFC 5280, section 5.3.3): read anew, none where the entry doesn't name one.
+    ///
+    /// # Errors
+    ///
+    /// `InvalidExtensions` where they can't be read, or bytes stand behind them; and `OutOfMemory`.
+    pub fn certificate_issuer(
+        &self,
+        alloc: Global,
+    ) -> Result<Option<Sequence<GeneralName<'a>>>, X509Error>
+        ensures { MatchResult result (λ said. said_by (revoked_of self.now).extensions ≡ said_of (option_map (map general_name_of) said))
+            (λ e. (e ≡ OutOfMemory) ⊎ ((e ≡ InvalidExtensions) × (said_by (revoked_of self.now).extensions ≡ unreadable))) }
+    {
+        let oid = Oid::new(CERTIFICATE_ISSUER);
+        let value = match self.find_extension(&oid) {
+            Some(extension) => extension.value,
+            None => return Ok(None),
+        };
+        match SubjectAlternativeName::read(alloc, &mut Tries::new(), value) {
+            Ok((rest, SubjectAlternativeName { general_names })) => {
+                if !rest.is_empty() {
+                    return Err(X509Error::InvalidExtensions);
+                }
+                Ok(Some(general_names))
+            }
+            Err(e) => {
+                if e.is_out_of_memory() {
+                    return Err(X509Error::OutOfMemory);
+                }
+                Err(X509Error::InvalidExtensions)
+            }
+        }
+    }
+}
+
+/// Whether an entry is of this issuer, where the entry before it is, or isn't.
 fn is_entry_of(
     alloc: Global,
-    extensions: &[X509Extension<'_>],
+    entry: &RevokedCertificate<'_>,
     issuer: &[u8],
     before: bool,
 ) -> Result<bool, X509Error>
-    ensures { MatchResult result (λ ours. is_of issuer.now before (said_by (map extension_of extensions.now)) ≡ Some ours)
-        (λ e. (e ≡ OutOfMemory) ⊎ ((e ≡ InvalidExtensions) × (is_of issuer.now before (said_by (map extension_of extensions.now)) ≡ None))) }
+    ensures { MatchResult result (λ ours. is_of issuer.now before (said_by (revoked_of entry.now).extensions) ≡ Some ours)
+        (λ e. (e ≡ OutOfMemory) ⊎ ((e ≡ InvalidExtensions) × (is_of issuer.now before (said_by (revoked_of entry.now).extensions) ≡ None))) }
 {
-    let oid = Oid::new(CERTIFICATE_ISSUER);
-    let value = match x509_extensions::find_extension(extensions, &oid) {
-        Some(extension) => extension.value,
-        None => return Ok(before),
-    };
-    match SubjectAlternativeName::read(alloc, &mut Tries::new(), value) {
-        Ok((rest, names)) => {
-            if !rest.is_empty() {
-                return Err(X509Error::InvalidExtensions);
-            }
-            Ok(are_of(names.general_names.as_slice(), issuer))
-        }
-        Err(e) => {
-            if e.is_out_of_memory() {
-                return Err(X509Error::OutOfMemory);
-            }
-            Err(X509Error::InvalidExtensions)
-        }
+    match entry.certificate_issuer(alloc)? {
+        Some(names) => Ok(are_of(names.as_slice(), issuer)),
+        None => Ok(before),
     }
 }
 
@@ -97,7 +117,7 @@ impl<'a> TbsCertListEntries<'a> {
                 Ok(entry) => entry,
                 Err(e) => return Err(e),
             };
-            ours = is_entry_of(alloc, entry.extensions(), issuer.as_raw(), ours)?;
+            ours = is_entry_of(alloc, &entry, issuer.as_raw(), ours)?;
             if ours & (entry.user_certificate == *serial) {
                 return Ok(Some((position, entry)));
             }
@@ -126,7 +146,7 @@ impl<'a> TbsCertList<'a> {
         let mut position = 0;
         let revoked = self.revoked_certificates.as_slice();
         for certificate in revoked {
-            ours = is_entry_of(alloc, certificate.extensions(), issuer.as_raw(), ours)?;
+            ours = is_entry_of(alloc, certificate, issuer.as_raw(), ours)?;
             if ours & (certificate.user_certificate == *serial) {
                 return Ok(Some(position));
             }

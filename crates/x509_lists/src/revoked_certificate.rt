@@ -1,10 +1,9 @@
 //! A certificate on a list of revoked ones.
 
-ghost use Rattle.std.specs.Prelude.{◌≡◌, MatchResult, codes, string_bytes, true};
+ghost use Rattle.std.specs.Prelude.{◌≡◌, MatchResult, codes, string_bytes};
+ghost use Rattle.x509_der.specs.Grammar.{allocates, in_sequence};
 ghost use Rattle.x509_der.specs.Hex.{hex_text};
 ghost use Rattle.x509_der.specs.Iterating.{Iterates};
-ghost use Rattle.x509_der.specs.Primitives.{is_constructed};
-ghost use Rattle.x509_der.specs.Reading.{strict};
 ghost use Rattle.x509_fields.specs.declared.error.X509Error.TheVariants.{OutOfMemory};
 ghost use Rattle.x509_lists.specs.RevokedCertificate.{Revoked, revoked_of, revoked, revoked_heads, revoked_laws};
 
@@ -84,19 +83,7 @@ impl<'a> FromDer<'a, X509Error> for RevokedCertificate<'a> {
 
     ghost view = { revoked_of };
 
-    ghost plan = { revoked };
-
-    ghost laws = { revoked_laws.laws.lawful };
-
-    ghost marked = { revoked_laws.marked };
-
-    ghost form = { strict };
-
-    ghost own_tag = { is_constructed 16 };
-
-    ghost heads = { revoked_heads };
-
-    ghost takes_memory = { true };
+    ghost grammar = { in_sequence revoked revoked_laws revoked_heads allocates };
 
     #[inline(always)]
     #[tactic(auto, unfolding(crate::specs::RevokedCertificate::revoked), using(x509_der::proofs::Marking::marks_of_readers))]

@@ -1,8 +1,7 @@
 //! The certificates of a list, left in their octets.
 
-ghost use Rattle.std.specs.Prelude.{List, true};
-ghost use Rattle.x509_der.specs.Primitives.{is_constructed};
-ghost use Rattle.x509_der.specs.Reading.{strict};
+ghost use Rattle.std.specs.Prelude.{List};
+ghost use Rattle.x509_der.specs.Grammar.{allocates, in_sequence};
 ghost use Rattle.x509_lists.specs.EntriesIn.{HoldsEntries};
 ghost use Rattle.x509_lists.specs.RevokedCertificate.{Revoked};
 ghost use Rattle.x509_lists.specs.RevokedList.{revoked_list, revoked_list_heads, revoked_list_laws};
@@ -81,19 +80,7 @@ impl<'a> FromDer<'a, X509Error> for RevokedEntries<'a> {
 
     ghost view = { entries_of };
 
-    ghost plan = { revoked_list };
-
-    ghost laws = { revoked_list_laws.laws.lawful };
-
-    ghost marked = { revoked_list_laws.marked };
-
-    ghost form = { strict };
-
-    ghost own_tag = { is_constructed 16 };
-
-    ghost heads = { revoked_list_heads };
-
-    ghost takes_memory = { true };
+    ghost grammar = { in_sequence revoked_list revoked_list_laws revoked_list_heads allocates };
 
     #[tactic(auto, unfolding(crate::specs::RevokedList::revoked_list), using(x509_der::proofs::Marking::marks_of_readers))]
     fn read_at<L: Outside>(

@@ -1,9 +1,8 @@
 //! The part of a list that is signed.
 
-ghost use Rattle.std.specs.Prelude.{◌≡◌, true};
+ghost use Rattle.std.specs.Prelude.{◌≡◌};
+ghost use Rattle.x509_der.specs.Grammar.{allocates, in_sequence};
 ghost use Rattle.x509_der.specs.Iterating.{Iterates};
-ghost use Rattle.x509_der.specs.Primitives.{is_constructed};
-ghost use Rattle.x509_der.specs.Reading.{strict};
 ghost use Rattle.x509_lists.specs.TbsCertList.{TbsList, tbs_list, tbs_list_heads, tbs_list_laws, tbs_list_with};
 
 use crate::revoked_certificate::RevokedCertificate;
@@ -84,19 +83,7 @@ impl<'a, R: Entries<'a>> FromDer<'a, X509Error> for TbsCertListOf<'a, R> {
 
     ghost view = { tbs_list_with R.entries };
 
-    ghost plan = { tbs_list };
-
-    ghost laws = { tbs_list_laws.laws.lawful };
-
-    ghost marked = { tbs_list_laws.marked };
-
-    ghost form = { strict };
-
-    ghost own_tag = { is_constructed 16 };
-
-    ghost heads = { tbs_list_heads };
-
-    ghost takes_memory = { true };
+    ghost grammar = { in_sequence tbs_list tbs_list_laws tbs_list_heads allocates };
 
     fn read_at<L: Outside>(
         alloc: Global,

@@ -1,13 +1,13 @@
 //! Names (RFC 5280, 4.1.2.4).
 
-ghost use Rattle.std.specs.Prelude.{◌≡◌, List, [], false, true};
+ghost use Rattle.std.specs.Prelude.{◌≡◌, List, []};
 ghost use Rattle.std.specs.Cmp.Lexicographic.{pointwise};
+ghost use Rattle.x509_der.specs.Grammar.{allocates, borrows, in_sequence, in_set};
 ghost use Rattle.x509_der.specs.Iterating.{Iterates};
 ghost use Rattle.x509_der.specs.Leaves.{sequence};
 ghost use Rattle.x509_der.specs.Oid.{oid_bytes};
-ghost use Rattle.x509_der.specs.Primitives.{is_constructed};
 ghost use Rattle.x509_der.specs.Promises.{OneTryEach};
-ghost use Rattle.x509_der.specs.Reading.{Gives, strict};
+ghost use Rattle.x509_der.specs.Reading.{Gives};
 ghost use Rattle.x509_names.specs.Names.{Attribute, attribute_of, attribute_heads, attribute, attribute_laws, relative_name_of, relative_name_heads};
 ghost use Rattle.x509_names.specs.Names.{relative_name, relative_name_laws, Name, name_of, name_heads, name, name_laws, attributes_in, with_type};
 ghost use Rattle.x509_names.specs.Names.{attributes_left, matching_left, is_plain_string, string_in};
@@ -91,19 +91,7 @@ impl<'a> FromDer<'a, X509Error> for AttributeTypeAndValue<'a> {
 
     ghost view = { attribute_of };
 
-    ghost plan = { attribute };
-
-    ghost laws = { attribute_laws.laws.lawful };
-
-    ghost marked = { attribute_laws.marked };
-
-    ghost form = { strict };
-
-    ghost own_tag = { is_constructed 16 };
-
-    ghost heads = { attribute_heads };
-
-    ghost takes_memory = { false };
+    ghost grammar = { in_sequence attribute attribute_laws attribute_heads borrows };
 
     ghost tight = { OneTryEach sequence };
 
@@ -183,19 +171,7 @@ impl<'a> FromDer<'a, X509Error> for RelativeDistinguishedName<'a> {
 
     ghost view = { relative_name_of };
 
-    ghost plan = { relative_name };
-
-    ghost laws = { relative_name_laws.laws.lawful };
-
-    ghost marked = { relative_name_laws.marked };
-
-    ghost form = { strict };
-
-    ghost own_tag = { is_constructed 17 };
-
-    ghost heads = { relative_name_heads };
-
-    ghost takes_memory = { true };
+    ghost grammar = { in_set relative_name relative_name_laws relative_name_heads allocates };
 
     #[tactic(auto, unfolding(crate::specs::Names::relative_name), using(x509_der::proofs::Marking::marks_of_readers))]
     #[inline(always)]
@@ -249,19 +225,7 @@ impl<'a> FromDer<'a, X509Error> for X509Name<'a> {
 
     ghost view = { name_of };
 
-    ghost plan = { name };
-
-    ghost laws = { name_laws.laws.lawful };
-
-    ghost marked = { name_laws.marked };
-
-    ghost form = { strict };
-
-    ghost own_tag = { is_constructed 16 };
-
-    ghost heads = { name_heads };
-
-    ghost takes_memory = { true };
+    ghost grammar = { in_sequence name name_laws name_heads allocates };
 
     #[tactic(auto, unfolding(crate::specs::Names::name), using(x509_der::proofs::Marking::marks_of_readers))]
     #[inline(always)]

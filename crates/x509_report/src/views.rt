@@ -29,7 +29,7 @@ fn refusal_of<'a, T: FromDer<'a, X509Error> + Drop>(
     alloc: Global,
     octets: &'a [u8],
 ) -> Result<Option<Located<X509Error>>, AllocError>
-    ensures { IfOk result (λ r. r ≡ refusal_of T.plan octets.now) }
+    ensures { IfOk result (λ r. r ≡ refusal_of T.grammar.plan octets.now) }
 {
     match T::from_der_located(alloc, octets) {
         Ok((_, _value)) => Ok(None),
@@ -70,7 +70,7 @@ fn seen_where<'a, T: FromDer<'a, X509Error> + Drop>(
     part: Part,
     octets: &'a [u8],
 ) -> Result<View, AllocError>
-    ensures { IfOk result (λ v. v ≡ seen_where wanted view part (refusal_of T.plan octets.now)) }
+    ensures { IfOk result (λ v. v ≡ seen_where wanted view part (refusal_of T.grammar.plan octets.now)) }
 {
     if !wanted {
         return Ok(view);

@@ -1,7 +1,7 @@
 -- Certification requests (RFC 2986, 4.2).
 use Rattle.std.specs.Prelude.{ℕ, List}
 use Rattle.x509_der.specs.declared.error.Err.TheVariants.{Error}
-use Rattle.x509_der.specs.Laws.{IsElement, IsMarkedElement}
+use Rattle.x509_der.specs.Laws.{IsMarkedElement}
 use Rattle.x509_der.specs.Plan.{plain_only}
 use Rattle.x509_der.specs.Primitives.{bit_string}
 use Rattle.x509_der.proofs.Marked.{plain_only_laws}
@@ -42,5 +42,5 @@ pub certification_request_laws : IsMarkedElement is_x509_memory certification_re
 unfolding certification_request
 certification_request_laws = signed_laws request_info request_info_laws
 
-pub plain_request_laws : IsElement is_x509_memory plain_request
-plain_request_laws = plain_only_laws is_x509_memory x509.Generic certification_request certification_request_laws.laws certification_request_laws.marked
+pub plain_request_laws : IsMarkedElement is_x509_memory plain_request
+plain_request_laws = plain_only_laws is_x509_memory x509.Generic certification_request certification_request_laws

@@ -1,6 +1,7 @@
 //! Attributes of a request.
 
 ghost use Rattle.std.specs.Prelude.{◌≡◌, ◌≤◌, ◌+◌, ◌*◌, true, false, length, IfOk, MatchResult};
+ghost use Rattle.x509_der.specs.Grammar.{allocates, in_element};
 ghost use Rattle.x509_der.specs.Oid.{oid_bytes};
 ghost use Rattle.x509_der.specs.Primitives.{is_constructed};
 ghost use Rattle.x509_der.specs.declared.error.Err.TheVariants.{Error};
@@ -109,19 +110,7 @@ impl<'a> FromDer<'a, X509Error> for X509CriAttribute<'a> {
 
     ghost view = { attribute_of };
 
-    ghost plan = { attribute };
-
-    ghost laws = { attribute_laws.laws.lawful };
-
-    ghost marked = { attribute_laws.marked };
-
-    ghost form = { loose };
-
-    ghost own_tag = { is_constructed 16 };
-
-    ghost heads = { attribute_heads };
-
-    ghost takes_memory = { true };
+    ghost grammar = { in_element loose (is_constructed 16) attribute attribute_laws attribute_heads allocates };
 
     #[tactic(auto, unfolding(crate::specs::CriAttribute::attribute, crate::specs::CriAttribute::said, crate::specs::CriAttribute::parts_mark))]
     fn read_at<L: Outside>(

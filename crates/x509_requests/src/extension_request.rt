@@ -1,8 +1,7 @@
 //! Extensions that a request asks for.
 
 ghost use Rattle.std.specs.Prelude.{List, true};
-ghost use Rattle.x509_der.specs.Primitives.{is_constructed};
-ghost use Rattle.x509_der.specs.Reading.{strict};
+ghost use Rattle.x509_der.specs.Grammar.{allocates, in_sequence};
 ghost use Rattle.x509_extensions.specs.Extension.{Extension};
 ghost use Rattle.x509_extensions.specs.ExtensionList.{extensions, extensions_heads, extensions_laws};
 ghost use Rattle.x509_requests.specs.ExtensionRequest.{request_of};
@@ -28,19 +27,7 @@ impl<'a> FromDer<'a, X509Error> for ExtensionRequest<'a> {
 
     ghost view = { request_of };
 
-    ghost plan = { extensions true };
-
-    ghost laws = { (extensions_laws true).laws.lawful };
-
-    ghost marked = { (extensions_laws true).marked };
-
-    ghost form = { strict };
-
-    ghost own_tag = { is_constructed 16 };
-
-    ghost heads = { extensions_heads };
-
-    ghost takes_memory = { true };
+    ghost grammar = { in_sequence (extensions true) (extensions_laws true) extensions_heads allocates };
 
     fn read_at<L: Outside>(
         alloc: Global,

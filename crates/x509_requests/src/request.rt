@@ -1,8 +1,7 @@
 //! Certification requests.
 
-ghost use Rattle.std.specs.Prelude.{◌≡◌, option_map, true};
-ghost use Rattle.x509_der.specs.Primitives.{is_constructed};
-ghost use Rattle.x509_der.specs.Reading.{strict};
+ghost use Rattle.std.specs.Prelude.{◌≡◌, option_map};
+ghost use Rattle.x509_der.specs.Grammar.{allocates, in_sequence};
 ghost use Rattle.x509_fields.specs.Signed.{Signed};
 ghost use Rattle.x509_requests.specs.RequestInfo.{RequestInfo};
 ghost use Rattle.x509_requests.specs.Requested.{first_requested, requested_left};
@@ -67,19 +66,7 @@ impl<'a> FromDer<'a, X509Error> for X509CertificationRequest<'a> {
 
     ghost view = { certification_request_of };
 
-    ghost plan = { certification_request };
-
-    ghost laws = { certification_request_laws.laws.lawful };
-
-    ghost marked = { certification_request_laws.marked };
-
-    ghost form = { strict };
-
-    ghost own_tag = { is_constructed 16 };
-
-    ghost heads = { certification_request_heads };
-
-    ghost takes_memory = { true };
+    ghost grammar = { in_sequence certification_request certification_request_laws certification_request_heads allocates };
 
     #[tactic(auto, unfolding(crate::specs::Request::certification_request))]
     fn read_at<L: Outside>(

@@ -1,9 +1,8 @@
 //! What a certification request says.
 
-ghost use Rattle.std.specs.Prelude.{◌≡◌, true};
+ghost use Rattle.std.specs.Prelude.{◌≡◌};
+ghost use Rattle.x509_der.specs.Grammar.{allocates, in_sequence};
 ghost use Rattle.x509_der.specs.Iterating.{Iterates};
-ghost use Rattle.x509_der.specs.Primitives.{is_constructed};
-ghost use Rattle.x509_der.specs.Reading.{strict};
 ghost use Rattle.x509_requests.specs.RequestInfo.{RequestInfo, info_of, info_heads, request_info, request_info_laws};
 
 use crate::cri_attribute::{CriAttributeIter, X509CriAttribute};
@@ -59,19 +58,7 @@ impl<'a> FromDer<'a, X509Error> for X509CertificationRequestInfo<'a> {
 
     ghost view = { info_of };
 
-    ghost plan = { request_info };
-
-    ghost laws = { request_info_laws.laws.lawful };
-
-    ghost marked = { request_info_laws.marked };
-
-    ghost form = { strict };
-
-    ghost own_tag = { is_constructed 16 };
-
-    ghost heads = { info_heads };
-
-    ghost takes_memory = { true };
+    ghost grammar = { in_sequence request_info request_info_laws info_heads allocates };
 
     #[tactic(auto, unfolding(crate::specs::RequestInfo::request_info), using(x509_der::proofs::Marking::marks_of_readers))]
     fn read_at<L: Outside>(

@@ -11,7 +11,7 @@ use Rattle.x509_revoked_cli.specs.declared.search.Search.{Search}
 use Rattle.x509_revoked_cli.specs.declared.serials.Serial.{Serial}
 
 -- a list stands at the front of the input, and the report is of its entries
-pub record IsReportOf {T : Type 0} (input : List ℕ) (issuer : Option T) (serials : List Serial) (report : Report) : Type 0 where
+pub record IsReportOf (input : List ℕ) (issuer : Option (List ℕ)) (serials : List Serial) (report : Report) : Type 0 where
   pub list : Signed TbsList
   pub rest : List ℕ
   pub front : IsFront certificate_list input list rest

@@ -1,5 +1,5 @@
 -- The entry of a serial, by each way of looking for it (RFC 5280, 5.1.2.6 and 5.3.3).
-use Rattle.std.specs.Prelude.{◌≡◌, ℕ, List, [], ◌∷◌, Option, Some, None, map, slice_get}
+use Rattle.std.specs.Prelude.{◌≡◌, ℕ, List, [], ◌∷◌, true, Option, Some, None, map, slice_get}
 use Rattle.x509_lists.specs.EntryIssuers.{Place, at, nowhere, unclear, place_for}
 use Rattle.x509_lists.specs.FindRevoked.{first_of, serial_numbers}
 use Rattle.x509_lists.specs.RevokedCertificate.{Revoked}
@@ -7,6 +7,7 @@ use Rattle.x509_lists.specs.RevokedEntries.{entries_of}
 use Rattle.x509_lists.specs.TbsCertList.{TbsList}
 use Rattle.x509_names.specs.Names.{Name, name_of}
 use Rattle.x509_revoked.specs.OctetsIndex.{indexed_entries}
+use Rattle.x509_revoked_cli.specs.Names.{are_readable, names_with}
 use Rattle.x509_revoked_cli.specs.declared.search.Search.{Search}
 use Rattle.x509_revoked_cli.specs.declared.search.Search.TheVariants.{Scan, Index, Issuers}
 
@@ -37,7 +38,8 @@ found_in (Scan entries) number = first_entry (entries_of entries) number
 found_in (Index index) number = first_entry (indexed_entries index) number
 found_in (Issuers tbs names) number = first_for (name_of tbs.now.issuer).raw (entries_of tbs.now.revoked_certificates) (map name_of names.items) number
 
--- What is looked through: all entries of a list, or where an issuer is asked for, those of some names.
-abbrev pub LooksThrough : {T : Type 0} → TbsList → Option T → Search → Type 0
+-- What is looked through: all entries of a list, or where an issuer is asked for, those of all names with this text, where nothing hides one.
+abbrev pub LooksThrough : TbsList → Option (List ℕ) → Search → Type 0
 LooksThrough tbs None search = (number : ℕ) → found_in search number ≡ first_entry tbs.revoked_certificates number
-LooksThrough tbs (Some text) search = (names : List Name) × ((number : ℕ) → found_in search number ≡ first_for tbs.issuer.raw tbs.revoked_certificates names number)
+LooksThrough tbs (Some text) search =
+    (are_readable tbs.revoked_certificates ≡ true) × ((number : ℕ) → found_in search number ≡ first_for tbs.issuer.raw tbs.revoked_certificates (names_with text tbs) number)

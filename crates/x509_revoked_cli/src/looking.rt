@@ -1,6 +1,6 @@
 //! What a list says of serials, by the index that is kept of it, where one is asked for.
 
-ghost use Rattle.std.specs.Prelude.{◌≡◌, IfOk};
+ghost use Rattle.std.specs.Prelude.{◌≡◌, IfOk, option_map};
 ghost use Rattle.x509_lists.specs.ListEntries.{tbs_entries_of};
 ghost use Rattle.x509_revoked.specs.OctetsIndex.{indexed_entries};
 ghost use Rattle.x509_revoked_cli.specs.Runs.{IsReportOf};
@@ -80,7 +80,7 @@ fn search_for<'l, 'a>(
     tbs: &'l TbsCertListEntries<'a>,
     count: usize,
 ) -> Result<Search<'l, 'a>, u8>
-    ensures { IfOk result (λ search. LooksThrough (tbs_entries_of tbs.now) options.now.issuer search) }
+    ensures { IfOk result (λ search. LooksThrough (tbs_entries_of tbs.now) (option_map (λ text. text.now) options.now.issuer) search) }
 {
     let entries = &tbs.revoked_certificates;
     if let Some(text) = options.issuer {
@@ -114,7 +114,7 @@ pub fn lines_of_list(
     octets: &[u8],
     serials: &[Serial<'_>],
 ) -> Result<Report, u8>
-    ensures { IfOk result (IsReportOf octets.now options.now.issuer serials.now) }
+    ensures { IfOk result (IsReportOf octets.now (option_map (λ text. text.now) options.now.issuer) serials.now) }
 {
     let list = match parse_x509_crl_entries_located(rt.alloc(), octets) {
         Ok((_, list)) => list,

@@ -1,10 +1,9 @@
 //! Whether a subject is a certification authority, and how long the paths below it may be.
 
 ghost use Rattle.std.specs.Prelude.{false};
+ghost use Rattle.x509_der.specs.Grammar.{borrows, in_sequence};
 ghost use Rattle.x509_der.specs.Leaves.{sequence};
-ghost use Rattle.x509_der.specs.Primitives.{is_constructed};
 ghost use Rattle.x509_der.specs.Promises.{OneTryEach};
-ghost use Rattle.x509_der.specs.Reading.{strict};
 ghost use Rattle.x509_values.specs.BasicConstraints.{BasicConstraintsValue, basic_constraints_of, basic_constraints, basic_constraints_heads};
 ghost use Rattle.x509_values.specs.BasicConstraints.{basic_constraints_laws};
 
@@ -35,19 +34,7 @@ impl<'a> FromDer<'a, X509Error> for BasicConstraints {
 
     ghost view = { basic_constraints_of };
 
-    ghost plan = { basic_constraints };
-
-    ghost laws = { basic_constraints_laws.laws.lawful };
-
-    ghost marked = { basic_constraints_laws.marked };
-
-    ghost form = { strict };
-
-    ghost own_tag = { is_constructed 16 };
-
-    ghost heads = { basic_constraints_heads };
-
-    ghost takes_memory = { false };
+    ghost grammar = { in_sequence basic_constraints basic_constraints_laws basic_constraints_heads borrows };
 
     ghost tight = { OneTryEach sequence };
 

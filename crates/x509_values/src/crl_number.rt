@@ -1,8 +1,7 @@
 //! The number of a list of revoked certificates.
 
-ghost use Rattle.std.specs.Prelude.{ℕ, List, false};
-ghost use Rattle.x509_der.specs.Primitives.{is_primitive};
-ghost use Rattle.x509_der.specs.Reading.{strict};
+ghost use Rattle.std.specs.Prelude.{ℕ, List};
+ghost use Rattle.x509_der.specs.Grammar.{in_primitive};
 ghost use Rattle.x509_values.specs.CrlNumber.{crl_number_of, crl_number, crl_number_laws};
 
 use std::alloc::Global;
@@ -24,19 +23,7 @@ impl<'a> FromDer<'a, X509Error> for CRLNumber<'a> {
 
     ghost view = { crl_number_of };
 
-    ghost plan = { crl_number };
-
-    ghost laws = { crl_number_laws.laws.lawful };
-
-    ghost marked = { crl_number_laws.marked };
-
-    ghost form = { strict };
-
-    ghost own_tag = { is_primitive 2 };
-
-    ghost heads = { λ _. 1 };
-
-    ghost takes_memory = { false };
+    ghost grammar = { in_primitive 2 crl_number crl_number_laws };
 
     #[tactic(auto, unfolding(crate::specs::CrlNumber::crl_number, x509_der::specs::Leaves::unsigned, x509_der::specs::Primitives::contents_at), using(x509_der::proofs::Marking::marks_of_readers))]
     fn read_at<L: Outside>(

@@ -2,11 +2,10 @@
 
 ghost use Rattle.std.specs.Prelude.{◌≡◌, ℕ, List, [], ◌∷◌, ◌++◌, ◌+◌, ◌-◌, OnOk, MatchOption, MatchResult, map, false, true};
 ghost use Rattle.std.specs.Prelude.{if◌then◌else◌};
+ghost use Rattle.x509_der.specs.Grammar.{allocates, in_primitive, in_sequence};
 ghost use Rattle.x509_der.specs.Oid.{oid_bytes};
 ghost use Rattle.x509_der.specs.Plan.{marks_of_members};
-ghost use Rattle.x509_der.specs.Primitives.{is_constructed, is_primitive};
 ghost use Rattle.x509_der.specs.Promises.{ReadsPart, is_excused};
-ghost use Rattle.x509_der.specs.Reading.{strict};
 ghost use Rattle.x509_fields.specs.Errors.{is_x509_memory};
 ghost use Rattle.x509_values.specs.ExtendedKeyUsage.{AreBehindFirst, Usages, named_purposes, octets_of, holds, usages_in, usages_of, usages_heads};
 ghost use Rattle.x509_values.specs.ExtendedKeyUsage.{key_purpose_of, key_purpose, key_purpose_laws, said_at, extended_key_usage, extended_key_usage_laws};
@@ -26,19 +25,7 @@ impl<'a> FromDer<'a, BerError> for KeyPurpose<'a> {
 
     ghost view = { key_purpose_of };
 
-    ghost plan = { key_purpose };
-
-    ghost laws = { key_purpose_laws.laws.lawful };
-
-    ghost marked = { key_purpose_laws.marked };
-
-    ghost form = { strict };
-
-    ghost own_tag = { is_primitive 6 };
-
-    ghost heads = { λ _. 1 };
-
-    ghost takes_memory = { false };
+    ghost grammar = { in_primitive 6 key_purpose key_purpose_laws };
 
     #[tactic(auto, unfolding(crate::specs::ExtendedKeyUsage::key_purpose, x509_der::specs::Leaves::oid, x509_der::specs::Primitives::contents_at), using(x509_der::proofs::Marking::marks_of_readers))]
     fn read_at<L: Outside>(
@@ -212,19 +199,7 @@ impl<'a> FromDer<'a, X509Error> for ExtendedKeyUsage<'a> {
 
     ghost view = { usages_of };
 
-    ghost plan = { extended_key_usage };
-
-    ghost laws = { extended_key_usage_laws.laws.lawful };
-
-    ghost marked = { extended_key_usage_laws.marked };
-
-    ghost form = { strict };
-
-    ghost own_tag = { is_constructed 16 };
-
-    ghost heads = { usages_heads };
-
-    ghost takes_memory = { true };
+    ghost grammar = { in_sequence extended_key_usage extended_key_usage_laws usages_heads allocates };
 
     #[tactic(auto, unfolding(crate::specs::ExtendedKeyUsage::extended_key_usage, crate::specs::ExtendedKeyUsage::key_purposes, crate::specs::ExtendedKeyUsage::key_purpose_run), using(x509_der::proofs::Marking::marks_of_readers))]
     fn read_at<L: Outside>(

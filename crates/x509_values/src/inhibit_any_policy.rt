@@ -1,8 +1,7 @@
 //! From where on the policy that stands for any other is ignored.
 
-ghost use Rattle.std.specs.Prelude.{ℕ, false};
-ghost use Rattle.x509_der.specs.Primitives.{is_primitive};
-ghost use Rattle.x509_der.specs.Reading.{strict};
+ghost use Rattle.std.specs.Prelude.{ℕ};
+ghost use Rattle.x509_der.specs.Grammar.{in_primitive};
 ghost use Rattle.x509_values.specs.InhibitAnyPolicy.{inhibit_any_policy, inhibit_any_policy_laws};
 
 use std::alloc::Global;
@@ -29,19 +28,7 @@ impl<'a> FromDer<'a, X509Error> for InhibitAnyPolicy {
 
     ghost view = { λ policy. policy.skip_certs };
 
-    ghost plan = { inhibit_any_policy };
-
-    ghost laws = { inhibit_any_policy_laws.laws.lawful };
-
-    ghost marked = { inhibit_any_policy_laws.marked };
-
-    ghost form = { strict };
-
-    ghost own_tag = { is_primitive 2 };
-
-    ghost heads = { λ _. 1 };
-
-    ghost takes_memory = { false };
+    ghost grammar = { in_primitive 2 inhibit_any_policy inhibit_any_policy_laws };
 
     #[tactic(auto, unfolding(crate::specs::InhibitAnyPolicy::inhibit_any_policy, x509_der::specs::Leaves::u32, x509_der::specs::Primitives::contents_at), using(x509_der::proofs::Marking::marks_of_readers))]
     fn read_at<L: Outside>(

@@ -1,8 +1,7 @@
 //! Since when a certificate is held to be invalid.
 
-ghost use Rattle.std.specs.Prelude.{◌≡◌, false, option_map};
-ghost use Rattle.x509_der.specs.Primitives.{is_primitive};
-ghost use Rattle.x509_der.specs.Reading.{strict};
+ghost use Rattle.std.specs.Prelude.{◌≡◌, option_map};
+ghost use Rattle.x509_der.specs.Grammar.{in_primitive};
 ghost use Rattle.x509_fields.specs.Times.{Time, time_of};
 ghost use Rattle.x509_values.specs.InvalidityDate.{invalidity_date_of, date_in, invalidity_date, invalidity_date_laws};
 
@@ -27,19 +26,7 @@ impl<'a> FromDer<'a, X509Error> for InvalidityDate {
 
     ghost view = { invalidity_date_of };
 
-    ghost plan = { invalidity_date };
-
-    ghost laws = { invalidity_date_laws.laws.lawful };
-
-    ghost marked = { invalidity_date_laws.marked };
-
-    ghost form = { strict };
-
-    ghost own_tag = { is_primitive 24 };
-
-    ghost heads = { λ _. 1 };
-
-    ghost takes_memory = { false };
+    ghost grammar = { in_primitive 24 invalidity_date invalidity_date_laws };
 
     #[tactic(auto, unfolding(crate::specs::InvalidityDate::invalidity_date, crate::specs::InvalidityDate::generalized_date, x509_der::specs::Leaves::any, x509_der::specs::Primitives::contents_at), using(x509_der::proofs::Marking::marks_of_readers))]
     fn read_at<L: Outside>(

@@ -1,8 +1,7 @@
 //! What a key may be used for.
 
-ghost use Rattle.std.specs.Prelude.{◌≡◌, ℕ, Some, false};
-ghost use Rattle.x509_der.specs.Primitives.{is_primitive};
-ghost use Rattle.x509_der.specs.Reading.{strict};
+ghost use Rattle.std.specs.Prelude.{◌≡◌, ℕ, Some};
+ghost use Rattle.x509_der.specs.Grammar.{in_primitive};
 ghost use Rattle.x509_fields.specs.Flags.{has_bit};
 ghost use Rattle.x509_fields.specs.BitNames.{names_left};
 ghost use Rattle.x509_fields.specs.Texts.{flags_text, set_names};
@@ -136,19 +135,7 @@ impl<'a> FromDer<'a, X509Error> for KeyUsage {
 
     ghost view = { key_usage_of };
 
-    ghost plan = { key_usage };
-
-    ghost laws = { key_usage_laws.laws.lawful };
-
-    ghost marked = { key_usage_laws.marked };
-
-    ghost form = { strict };
-
-    ghost own_tag = { is_primitive 3 };
-
-    ghost heads = { λ _. 1 };
-
-    ghost takes_memory = { false };
+    ghost grammar = { in_primitive 3 key_usage key_usage_laws };
 
     #[tactic(auto, unfolding(crate::specs::KeyUsage::key_usage, x509_der::specs::Leaves::bits, x509_der::specs::Primitives::contents_at), using(x509_der::proofs::Marking::marks_of_readers))]
     fn read_at<L: Outside>(

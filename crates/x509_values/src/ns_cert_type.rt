@@ -1,8 +1,7 @@
 //! What a certificate may be used for, as Netscape's extension says it.
 
-ghost use Rattle.std.specs.Prelude.{◌≡◌, ℕ, Some, false};
-ghost use Rattle.x509_der.specs.Primitives.{is_primitive};
-ghost use Rattle.x509_der.specs.Reading.{strict};
+ghost use Rattle.std.specs.Prelude.{◌≡◌, ℕ, Some};
+ghost use Rattle.x509_der.specs.Grammar.{in_primitive};
 ghost use Rattle.x509_fields.specs.Flags.{has_bit, reversed};
 ghost use Rattle.x509_fields.specs.BitNames.{names_left};
 ghost use Rattle.x509_fields.specs.Texts.{flags_text, set_names};
@@ -127,19 +126,7 @@ impl<'a> FromDer<'a, X509Error> for NSCertType {
 
     ghost view = { ns_cert_type_of };
 
-    ghost plan = { ns_cert_type };
-
-    ghost laws = { ns_cert_type_laws.laws.lawful };
-
-    ghost marked = { ns_cert_type_laws.marked };
-
-    ghost form = { strict };
-
-    ghost own_tag = { is_primitive 3 };
-
-    ghost heads = { λ _. 1 };
-
-    ghost takes_memory = { false };
+    ghost grammar = { in_primitive 3 ns_cert_type ns_cert_type_laws };
 
     #[tactic(auto, unfolding(crate::specs::NsCertType::ns_cert_type, crate::specs::NsCertType::octet_of_bits, x509_der::specs::Leaves::bits, x509_der::specs::Primitives::contents_at), using(x509_der::proofs::Marking::marks_of_readers))]
     fn read_at<L: Outside>(

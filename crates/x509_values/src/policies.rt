@@ -1,8 +1,7 @@
 //! Policies that a certificate was issued under.
 
-ghost use Rattle.std.specs.Prelude.{List, false, true};
-ghost use Rattle.x509_der.specs.Primitives.{is_constructed};
-ghost use Rattle.x509_der.specs.Reading.{strict};
+ghost use Rattle.std.specs.Prelude.{List, true};
+ghost use Rattle.x509_der.specs.Grammar.{allocates, borrows, in_sequence};
 ghost use Rattle.x509_values.specs.Policies.{PolicyQualifierValue, policy_qualifier_of, policy_qualifier, policy_qualifier_heads, policy_qualifier_laws};
 ghost use Rattle.x509_values.specs.Policies.{policy_qualifiers_of, policy_qualifiers, policy_qualifiers_heads, policy_qualifiers_laws, PolicyValue, policy_of};
 ghost use Rattle.x509_values.specs.Policies.{policy, policy_heads, policy_laws, policies_of, policies, policies_heads, policies_laws};
@@ -36,19 +35,7 @@ impl<'a> FromDer<'a, BerError> for PolicyQualifierInfo<'a> {
 
     ghost view = { policy_qualifier_of };
 
-    ghost plan = { policy_qualifier };
-
-    ghost laws = { policy_qualifier_laws.laws.lawful };
-
-    ghost marked = { policy_qualifier_laws.marked };
-
-    ghost form = { strict };
-
-    ghost own_tag = { is_constructed 16 };
-
-    ghost heads = { policy_qualifier_heads };
-
-    ghost takes_memory = { false };
+    ghost grammar = { in_sequence policy_qualifier policy_qualifier_laws policy_qualifier_heads borrows };
 
     #[tactic(auto, unfolding(crate::specs::Policies::policy_qualifier), using(x509_der::proofs::Marking::marks_of_readers))]
     fn read_at<L: Outside>(
@@ -80,19 +67,7 @@ impl<'a> FromDer<'a, BerError> for PolicyQualifiers<'a> {
 
     ghost view = { policy_qualifiers_of };
 
-    ghost plan = { policy_qualifiers };
-
-    ghost laws = { policy_qualifiers_laws.laws.lawful };
-
-    ghost marked = { policy_qualifiers_laws.marked };
-
-    ghost form = { strict };
-
-    ghost own_tag = { is_constructed 16 };
-
-    ghost heads = { policy_qualifiers_heads };
-
-    ghost takes_memory = { true };
+    ghost grammar = { in_sequence policy_qualifiers policy_qualifiers_laws policy_qualifiers_heads allocates };
 
     #[tactic(auto, unfolding(crate::specs::Policies::policy_qualifiers), using(x509_der::proofs::Marking::marks_of_readers))]
     fn read_at<L: Outside>(
@@ -132,19 +107,7 @@ impl<'a> FromDer<'a, BerError> for PolicyInformation<'a> {
 
     ghost view = { policy_of };
 
-    ghost plan = { policy };
-
-    ghost laws = { policy_laws.laws.lawful };
-
-    ghost marked = { policy_laws.marked };
-
-    ghost form = { strict };
-
-    ghost own_tag = { is_constructed 16 };
-
-    ghost heads = { policy_heads };
-
-    ghost takes_memory = { true };
+    ghost grammar = { in_sequence policy policy_laws policy_heads allocates };
 
     #[tactic(auto, unfolding(crate::specs::Policies::policy), using(x509_der::proofs::Marking::marks_of_readers))]
     fn read_at<L: Outside>(
@@ -200,19 +163,7 @@ impl<'a> FromDer<'a, X509Error> for PolicyList<'a> {
 
     ghost view = { policies_of };
 
-    ghost plan = { policies };
-
-    ghost laws = { policies_laws.laws.lawful };
-
-    ghost marked = { policies_laws.marked };
-
-    ghost form = { strict };
-
-    ghost own_tag = { is_constructed 16 };
-
-    ghost heads = { policies_heads };
-
-    ghost takes_memory = { true };
+    ghost grammar = { in_sequence policies policies_laws policies_heads allocates };
 
     #[tactic(auto, unfolding(crate::specs::Policies::policies, crate::specs::Policies::policy_run), using(x509_der::proofs::Marking::marks_of_readers))]
     fn read_at<L: Outside>(

@@ -1,10 +1,8 @@
 //! From where on a path needs a policy, and from where on policies may not be mapped.
 
-ghost use Rattle.std.specs.Prelude.{false};
+ghost use Rattle.x509_der.specs.Grammar.{borrows, in_sequence};
 ghost use Rattle.x509_der.specs.Leaves.{sequence};
-ghost use Rattle.x509_der.specs.Primitives.{is_constructed};
 ghost use Rattle.x509_der.specs.Promises.{OneTryEach};
-ghost use Rattle.x509_der.specs.Reading.{strict};
 ghost use Rattle.x509_values.specs.PolicyConstraints.{PolicyConstraintsValue, policy_constraints_of, policy_constraints, policy_constraints_heads};
 ghost use Rattle.x509_values.specs.PolicyConstraints.{policy_constraints_laws};
 
@@ -36,19 +34,7 @@ impl<'a> FromDer<'a, X509Error> for PolicyConstraints {
 
     ghost view = { policy_constraints_of };
 
-    ghost plan = { policy_constraints };
-
-    ghost laws = { policy_constraints_laws.laws.lawful };
-
-    ghost marked = { policy_constraints_laws.marked };
-
-    ghost form = { strict };
-
-    ghost own_tag = { is_constructed 16 };
-
-    ghost heads = { policy_constraints_heads };
-
-    ghost takes_memory = { false };
+    ghost grammar = { in_sequence policy_constraints policy_constraints_laws policy_constraints_heads borrows };
 
     ghost tight = { OneTryEach sequence };
 

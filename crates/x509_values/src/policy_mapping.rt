@@ -1,9 +1,8 @@
 //! Policies that two authorities hold for equivalent.
 
-ghost use Rattle.std.specs.Prelude.{◌≡◌, List, false, true};
+ghost use Rattle.std.specs.Prelude.{◌≡◌, List};
+ghost use Rattle.x509_der.specs.Grammar.{allocates, borrows, in_sequence};
 ghost use Rattle.x509_der.specs.Oid.{oid_bytes};
-ghost use Rattle.x509_der.specs.Primitives.{is_constructed};
-ghost use Rattle.x509_der.specs.Reading.{strict};
 ghost use Rattle.x509_fields.specs.Groups.{MapsGroups, held, pointed};
 ghost use Rattle.x509_values.specs.PolicyMapping.{PolicyMappingValue, policy_mapping_of, policy_mapping, policy_mapping_heads, policy_mapping_laws};
 ghost use Rattle.x509_values.specs.PolicyMapping.{policy_mappings_of, policy_mappings, policy_mappings_heads, policy_mappings_laws, subjects};
@@ -52,19 +51,7 @@ impl<'a> FromDer<'a, BerError> for PolicyMapping<'a> {
 
     ghost view = { policy_mapping_of };
 
-    ghost plan = { policy_mapping };
-
-    ghost laws = { policy_mapping_laws.laws.lawful };
-
-    ghost marked = { policy_mapping_laws.marked };
-
-    ghost form = { strict };
-
-    ghost own_tag = { is_constructed 16 };
-
-    ghost heads = { policy_mapping_heads };
-
-    ghost takes_memory = { false };
+    ghost grammar = { in_sequence policy_mapping policy_mapping_laws policy_mapping_heads borrows };
 
     #[tactic(auto, unfolding(crate::specs::PolicyMapping::policy_mapping), using(x509_der::proofs::Marking::marks_of_readers))]
     fn read_at<L: Outside>(
@@ -156,19 +143,7 @@ impl<'a> FromDer<'a, X509Error> for PolicyMappings<'a> {
 
     ghost view = { policy_mappings_of };
 
-    ghost plan = { policy_mappings };
-
-    ghost laws = { policy_mappings_laws.laws.lawful };
-
-    ghost marked = { policy_mappings_laws.marked };
-
-    ghost form = { strict };
-
-    ghost own_tag = { is_constructed 16 };
-
-    ghost heads = { policy_mappings_heads };
-
-    ghost takes_memory = { true };
+    ghost grammar = { in_sequence policy_mappings policy_mappings_laws policy_mappings_heads allocates };
 
     #[tactic(auto, unfolding(crate::specs::PolicyMapping::policy_mappings, crate::specs::PolicyMapping::policy_mapping_list), using(x509_der::proofs::Marking::marks_of_readers))]
     fn read_at<L: Outside>(

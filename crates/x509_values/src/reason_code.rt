@@ -1,8 +1,7 @@
 //! Why a certificate was revoked, as the extension of an entry says it.
 
-ghost use Rattle.std.specs.Prelude.{ℕ, false};
-ghost use Rattle.x509_der.specs.Primitives.{is_primitive};
-ghost use Rattle.x509_der.specs.Reading.{strict};
+ghost use Rattle.std.specs.Prelude.{ℕ};
+ghost use Rattle.x509_der.specs.Grammar.{in_primitive};
 ghost use Rattle.x509_values.specs.ReasonCode.{reason_code_of, reason_code, reason_code_laws};
 
 use std::alloc::Global;
@@ -34,19 +33,7 @@ impl<'a> FromDer<'a, X509Error> for ReasonCodeValue {
 
     ghost view = { reason_code_of };
 
-    ghost plan = { reason_code };
-
-    ghost laws = { reason_code_laws.laws.lawful };
-
-    ghost marked = { reason_code_laws.marked };
-
-    ghost form = { strict };
-
-    ghost own_tag = { is_primitive 10 };
-
-    ghost heads = { λ _. 1 };
-
-    ghost takes_memory = { false };
+    ghost grammar = { in_primitive 10 reason_code reason_code_laws };
 
     #[tactic(auto, unfolding(crate::specs::ReasonCode::reason_code, crate::specs::ReasonCode::reason_number, x509_der::specs::Leaves::enumerated, x509_der::specs::Primitives::contents_at), using(x509_der::proofs::Marking::marks_of_readers))]
     fn read_at<L: Outside>(

@@ -2,6 +2,7 @@
 
 ghost use Rattle.std.specs.Prelude.{◌≡◌, true, List, map, IfOk};
 ghost use Rattle.x509_der.specs.declared.error.BerError.TheVariants as ber;
+ghost use Rattle.x509_der.specs.Grammar.{allocates, in_element};
 ghost use Rattle.x509_der.specs.Plan.{run, run1, marks_of_members};
 ghost use Rattle.x509_der.specs.Primitives.{is_primitive};
 ghost use Rattle.x509_der.specs.Promises.{is_ber_memory, Answers, ReadsExactly, empty_run, AnswersAt};
@@ -92,19 +93,7 @@ impl<'a> FromDer<'a, BerError> for TimestampList<'a> {
 
     ghost view = { timestamps_of };
 
-    ghost plan = { timestamps };
-
-    ghost laws = { timestamps_laws.laws.lawful };
-
-    ghost marked = { timestamps_laws.marked };
-
-    ghost form = { strict };
-
-    ghost own_tag = { is_primitive 4 };
-
-    ghost heads = { λ _. 1 };
-
-    ghost takes_memory = { true };
+    ghost grammar = { in_element strict (is_primitive 4) timestamps timestamps_laws (λ _. 1) allocates };
 
     ghost tight = { λ _ old new. new ≡ old };
 

@@ -338,7 +338,17 @@ fn shallow(out: &mut Answer, a: &[u8], asked: &LookUps<'_>) {
     look_at(out, asked, read);
 }
 
-// The words of entries of lists, by their serials.
+/// Whom an entry names as the issuer of its certificate.
+#[derive(Clone, Copy)]
+struct CertificateIssuer;
+
+impl Tells<CertificateIssuer> for RevokedCertificate<'_> {
+    fn tell(&self, _asked: &CertificateIssuer, out: &mut Answer) {
+        put_result(out, self.certificate_issuer(out.alloc()));
+    }
+}
+
+// The words of entries of lists, and of one entry.
 fn entries(word: &str, a: &[u8], b: &[u8], out: &mut Answer) -> bool {
     match word {
         "find_revoked" => {
@@ -348,6 +358,7 @@ fn entries(word: &str, a: &[u8], b: &[u8], out: &mut Answer) -> bool {
             look_in::<TbsCertListEntries, _>(out, &Serial(UnsignedBytes::new(b)), a);
         }
         "find_for" => issued(out, a, b),
+        "certificate_issuer" => look_in::<RevokedCertificate, _>(out, &CertificateIssuer, a),
         "octets_index" => {
             look_in::<TbsCertListEntries, _>(out, &Indexed(UnsignedBytes::new(b)), a);
         }

@@ -13,7 +13,7 @@ use Rattle.x509_c.proofs.certificate.located.Goals as goal
 memory_wanted : (deep strict : Bool) (octets : List ℕ) → IsBytes octets
     → ReadsWhere is_x509_memory true read_of (certificate_by deep strict) octets (Err (record { why = refusals.Failure OutOfMemory; at = 0 }))
 memory_wanted deep strict octets k = record {
-  reads = reads_exactly (certificate_by deep strict) (certificate_by_laws deep strict).lawful is_x509_memory true read_of (Err (refusals.Failure OutOfMemory)) octets k tt;
+  reads = reads_exactly (certificate_by deep strict) (certificate_by_laws deep strict).laws.lawful is_x509_memory true read_of (Err (refusals.Failure OutOfMemory)) octets k tt;
   located = λ own. absurd cc;
   locates = λ why left refuses. tt;
 }

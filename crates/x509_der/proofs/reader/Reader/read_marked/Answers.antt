@@ -6,7 +6,7 @@ pub returns-in-Ok-clause-stands : goal.returns-in-Ok-clause-stands
 returns-in-Ok-clause-stands g c =
     let r = g.Self.Reader in
     let reader = c.args.self.now in
-    let read : (r.plan reader).read c.args.i.now ≡ got (r.view c.in-Ok.value) c.rest.result.now = search rules in
+    let read : (r.grammar reader).plan.read c.args.i.now ≡ got (r.view c.in-Ok.value) c.rest.result.now = search rules in
     r.stands_where reader c.args.i.now (r.view c.in-Ok.value) c.rest.result.now (λ k. omega (arith, c.type_inv.i k)) read
 
 pub returns-in-Err-clause-refused : goal.returns-in-Err-clause-refused

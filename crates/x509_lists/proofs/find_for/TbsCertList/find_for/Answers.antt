@@ -14,7 +14,7 @@ loop-certificate-preserved c =
     let others : List Revoked = map revoked_of (drop (i + 1) revoked) in
     let first : map revoked_of (drop i revoked) ≡ revoked_of entry ∷ others =
     ap (map revoked_of) (drop_more revoked i entry c.loop-certificate-test.true ∙ ap (λ x. x ∷ drop (i + 1) revoked) (sym c.certificate-item.is)) in
-    let is = is_of_read c.args.issuer.now.raw.now c.loop-certificate.ours c.in_ok-ours.ours (revoked_of entry) entry _ _ refl c.as_raw-in-loop-certificate.ensures c.extensions.ensures c.in_ok-ours.ensures in
+    let is = is_of_read c.args.issuer.now.raw.now c.loop-certificate.ours c.in_ok-ours.ours (revoked_of entry) entry _ refl c.as_raw-in-loop-certificate.ensures c.in_ok-ours.ensures in
     let has = has_number (unsigned_number c.args.serial.now) c.eq.result (revoked_of entry) entry refl c.eq.ensures in
     record {
       counted = omega (arith, c.loop-certificate.invariant.counted);
