@@ -1,13 +1,14 @@
 //! Issuers by the text of their names.
 
-ghost use Rattle.std.specs.Prelude.{◌≡◌, true, map, IfOk};
+ghost use Rattle.std.specs.Prelude.{◌≡◌, true, map, MatchResult};
 ghost use Rattle.std.specs.List.{list_any};
 ghost use Rattle.x509_general_names.specs.GeneralName.{general_name_of};
 ghost use Rattle.x509_lists.specs.EntryIssuers.{said_by};
 ghost use Rattle.x509_lists.specs.ListEntries.{tbs_entries_of};
 ghost use Rattle.x509_lists.specs.RevokedCertificate.{revoked_of};
 ghost use Rattle.x509_names.specs.Names.{name_of};
-ghost use Rattle.x509_revoked_cli.specs.Names.{are_readable, has_octets, is_readable, names_with, with_all, with_issuers, with_name};
+ghost use Rattle.x509_revoked_cli.specs.Names.{StopsFor, are_readable, has_octets, is_readable, names_with, with_all, with_issuers, with_name};
+ghost use Rattle.x509_revoked_cli.specs.declared.stop.Stop.TheVariants.{Memory};
 
 use crate::stop::Stop;
 use std::alloc::Global;
@@ -30,7 +31,8 @@ fn add_name<'a>(
     name: &X509Name<'a>,
     text: &str,
 ) -> Result<(), Stop>
-    ensures { IfOk result (λ _. map name_of names.new.items ≡ with_name text.now (map name_of names.old.items) (name_of name.now)) }
+    ensures { MatchResult result (λ _. map name_of names.new.items ≡ with_name text.now (map name_of names.old.items) (name_of name.now))
+        (λ stop. stop ≡ Memory) }
 {
     let shown = format!(in alloc; "{name}")?;
     if shown.as_str() != text || is_known(names.as_slice(), name) {
@@ -52,8 +54,8 @@ fn add_all<'a>(
     said: &[GeneralName<'a>],
     text: &str,
 ) -> Result<(), Stop>
-    ensures { IfOk result
-        (λ _. map name_of names.new.items ≡ with_all text.now (map name_of names.old.items) (map general_name_of said.now)) }
+    ensures { MatchResult result (λ _. map name_of names.new.items ≡ with_all text.now (map name_of names.old.items) (map general_name_of said.now))
+        (λ stop. stop ≡ Memory) }
 {
     for name in said {
         if let GeneralName::DirectoryName(name) = name {
@@ -70,9 +72,10 @@ fn add_issuers<'a>(
     entry: &RevokedCertificate<'a>,
     text: &str,
 ) -> Result<(), Stop>
-    ensures { IfOk result
+    ensures { MatchResult result
         (λ _. (is_readable (said_by (revoked_of entry.now).extensions) ≡ true)
-        × (map name_of names.new.items ≡ with_issuers text.now (map name_of names.old.items) (said_by (revoked_of entry.now).extensions))) }
+        × (map name_of names.new.items ≡ with_issuers text.now (map name_of names.old.items) (said_by (revoked_of entry.now).extensions)))
+        (StopsFor (is_readable (said_by (revoked_of entry.now).extensions))) }
 {
     match entry.certificate_issuer(alloc) {
         Ok(Some(said)) => add_all(alloc, names, said.as_slice(), text),
@@ -88,8 +91,9 @@ pub fn names_with_text<'a>(
     tbs: &TbsCertListEntries<'a>,
     text: &str,
 ) -> Result<Vec<X509Name<'a>>, Stop>
-    ensures { IfOk result
-        (λ names. (are_readable (tbs_entries_of tbs.now).revoked_certificates ≡ true) × (map name_of names.items ≡ names_with text.now (tbs_entries_of tbs.now))) }
+    ensures { MatchResult result
+        (λ names. (are_readable (tbs_entries_of tbs.now).revoked_certificates ≡ true) × (map name_of names.items ≡ names_with text.now (tbs_entries_of tbs.now)))
+        (StopsFor (are_readable (tbs_entries_of tbs.now).revoked_certificates)) }
 {
     let mut names = Vec::new(alloc);
     add_name(alloc, &mut names, &tbs.issuer, text)?;
