@@ -4,6 +4,7 @@ ghost use Rattle.std.specs.Prelude.{◌≡◌, ◌==◌, ◌<◌, ◌≤◌, ◌
 ghost use Rattle.x509_der.specs.Unsigned.{unsigned_number};
 ghost use Rattle.x509_fields.specs.declared.error.X509Error.TheVariants.{OutOfMemory};
 ghost use Rattle.x509_lists.specs.FindRevoked.{serial_numbers};
+ghost use Rattle.x509_lists.specs.RevokedCertificate.{revoked_of};
 ghost use Rattle.x509_lists.specs.TbsCertList.{tbs_list_of};
 ghost use Rattle.x509_revoked.specs.Entries.{indexed, AreInOrder};
 
@@ -11,10 +12,11 @@ use crate::entry::Entry;
 use crate::headed_serial::HeadedSerial;
 use crate::ordered::Ordered;
 use crate::search::search;
+use std::alloc::Global;
 use std::cmp::Ordering;
 use x509_der::UnsignedBytes;
 use x509_fields::X509Error;
-use x509_lists::TbsCertList;
+use x509_lists::{RevokedCertificate, TbsCertList};
 
 /// The serials of a list of revoked certificates, in order, each with the position of its entry on the list.
 ///
@@ -39,8 +41,23 @@ impl<'a> RevocationIndex<'a> {
     pub fn build(list: &TbsCertList<'a>) -> Result<RevocationIndex<'a>, X509Error>
         ensures { MatchResult result (λ index. IsIndexOf (serial_numbers (tbs_list_of list.now).revoked_certificates) index) (λ e. e ≡ OutOfMemory) }
     {
-        let revoked = list.revoked_certificates.as_slice();
-        let mut entries = Vec::with_capacity(list.revoked_certificates.allocator(), revoked.len())?;
+        let entries = &list.revoked_certificates;
+        RevocationIndex::from_entries(entries.allocator(), entries.as_slice())
+    }
+
+    /// The index of these certificates alone, as those of one issuer on an indirect list (RFC 5280, section 5.3.3): positions are those
+    /// among them.
+    ///
+    /// # Errors
+    ///
+    /// `OutOfMemory`.
+    pub fn from_entries(
+        alloc: Global,
+        revoked: &[RevokedCertificate<'a>],
+    ) -> Result<RevocationIndex<'a>, X509Error>
+        ensures { MatchResult result (λ index. IsIndexOf (serial_numbers (map revoked_of revoked.now)) index) (λ e. e ≡ OutOfMemory) }
+    {
+        let mut entries = Vec::with_capacity(alloc, revoked.len())?;
         for certificate in revoked {
             let entry = Entry::new(certificate.user_certificate, entries.len());
             if entries.push(entry).is_err() {

@@ -1,6 +1,6 @@
 pub mod Answers
 pub mod Serials
-pub mod Names
+pub mod Issuers
 pub mod Search
 pub mod Reports
 pub mod Runs

@@ -1,12 +1,12 @@
 //! What a list says of serials, by the index that is kept of it, where one is asked for.
 
-ghost use Rattle.std.specs.Prelude.{◌≡◌, IfOk, option_map};
+ghost use Rattle.std.specs.Prelude.{◌≡◌, IfOk, Some, option_map};
 ghost use Rattle.x509_lists.specs.ListEntries.{tbs_entries_of};
 ghost use Rattle.x509_revoked.specs.OctetsIndex.{indexed_entries};
 ghost use Rattle.x509_revoked_cli.specs.Runs.{IsReportOf};
 ghost use Rattle.x509_revoked_cli.specs.Search.{LooksThrough};
 
-use crate::names::names_with_text;
+use crate::issuers::entries_under;
 use crate::options::Options;
 use crate::report::{Report, report_serials};
 use crate::search::Search;
@@ -14,7 +14,7 @@ use crate::serials::Serial;
 use crate::stop::Stop;
 use std::{fmt, fs, io};
 use x509_lists::{TbsCertListEntries, parse_x509_crl_entries_located};
-use x509_revoked::{EntriesIndex, IndexError};
+use x509_revoked::{EntriesIndex, IndexError, RevocationIndex};
 
 /// Reading, writing or memory failed, or the list was refused.
 pub const STOPPED: u8 = 3;
@@ -73,28 +73,40 @@ fn kept_index<'a>(
     }
 }
 
+/// The entries of issuers with this text, and their index.
+fn search_under<'a>(
+    rt: &HostRuntime,
+    list: &str,
+    tbs: &TbsCertListEntries<'a>,
+    text: &str,
+) -> Result<Search<'a>, u8>
+    ensures { IfOk result (LooksThrough (tbs_entries_of tbs.now) (Some text.now)) }
+{
+    let entries = match entries_under(rt.alloc(), tbs, text) {
+        Ok(entries) => entries,
+        Err(stop) => return Err(stopped(rt, list, &stop.why())),
+    };
+    if entries.is_empty() {
+        let _ = eprintln!(rt; "x509_revoked: {text}: no entry is of an issuer of this name");
+    }
+    match RevocationIndex::from_entries(rt.alloc(), entries.as_slice()) {
+        Ok(index) => Ok(Search::OfIssuer(entries, index)),
+        Err(_) => Err(stopped(rt, list, &Stop::Memory.why())),
+    }
+}
+
 /// Where the entries are looked for.
-fn search_for<'l, 'a>(
+fn search_for<'a>(
     rt: &HostRuntime,
     options: &Options<'_>,
-    tbs: &'l TbsCertListEntries<'a>,
+    tbs: &TbsCertListEntries<'a>,
     count: usize,
-) -> Result<Search<'l, 'a>, u8>
-    ensures { IfOk result (λ search. LooksThrough (tbs_entries_of tbs.now) (option_map (λ text. text.now) options.now.issuer) search) }
+) -> Result<Search<'a>, u8>
+    ensures { IfOk result (LooksThrough (tbs_entries_of tbs.now) (option_map (λ text. text.now) options.now.issuer)) }
 {
     let entries = &tbs.revoked_certificates;
     if let Some(text) = options.issuer {
-        return match names_with_text(rt.alloc(), tbs, text) {
-            Ok(names) => {
-                if names.is_empty() {
-                    let _ = eprintln!(rt;
-                        "x509_revoked: {text}: no entry is of an issuer of this name"
-                    );
-                }
-                Ok(Search::Issuers(tbs, names))
-            }
-            Err(stop) => Err(stopped(rt, options.list, &stop.why())),
-        };
+        return search_under(rt, options.list, tbs, text);
     }
     if let Some(file) = options.index {
         return Ok(Search::Index(kept_index(rt, file, tbs)?));

@@ -2,8 +2,8 @@
 #![tactic(auto)]
 
 mod answers;
+mod issuers;
 mod looking;
-mod names;
 mod options;
 mod report;
 mod search;

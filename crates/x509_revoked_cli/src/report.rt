@@ -20,7 +20,7 @@ pub struct Report {
 /// What is said of all serials, a line each, in order.
 pub fn report_serials(
     alloc: Global,
-    search: &Search<'_, '_>,
+    search: &Search<'_>,
     serials: &[Serial<'_>],
 ) -> Result<Report, Stop>
     ensures { IfOk result (IsReport (found_in search.now) serials.now) }

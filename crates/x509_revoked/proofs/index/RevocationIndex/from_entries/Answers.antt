@@ -10,7 +10,7 @@ use Rattle.x509_revoked.specs.Entries.{indexed, indexed_from}
 use Rattle.x509_revoked.proofs.HeadedOrder.{indexed_sorted}
 use Rattle.x509_revoked.proofs.Least.{indexed_more, length_indexed, answers_first}
 use Rattle.x509_revoked.proofs.Ranked.{ranked_sorted, ties_of, order_of}
-use Rattle.x509_revoked.proofs.index.RevocationIndex.build.Goals as goal
+use Rattle.x509_revoked.proofs.index.RevocationIndex.from_entries.Goals as goal
 
 numbers_of : List RevokedCertificate → List ℕ
 numbers_of revoked = serial_numbers (map revoked_of revoked)
@@ -22,7 +22,7 @@ numbers_more xs x = ap serial_numbers (map-append revoked_of xs (x ∷ [])) ∙ 
 pub loop-certificate-preserved : goal.loop-certificate-preserved
 unfolding numbers_of
 loop-certificate-preserved c =
-    let revoked = c.as_slice-revoked.result.now in
+    let revoked = c.args.revoked.now in
     let i = c.loop-certificate.certificate-index in
     let held = c.loop-certificate.entries.items in
     let entry = c.new-entry.result in
@@ -48,14 +48,14 @@ invariant_of-result c = record {
 pub returns : goal.returns
 unfolding numbers_of
 returns c =
-    let revoked = c.as_slice-revoked.result.now in
+    let revoked = c.args.revoked.now in
     let numbers = numbers_of revoked in
     let held = c.loop-certificate.entries.items in
     let sorted = c.sort_unstable.new.self.items in
     let all : map indexed held ≡ indexed_from 0 numbers =
     c.loop-certificate.invariant ∙ ap (λ xs. indexed_from 0 (numbers_of xs)) (take_all c.loop-certificate.certificate-index revoked c.loop-certificate-test.false) in
     let moved : IsPermutation (indexed_from 0 numbers) (map indexed sorted) = subst (λ xs. IsPermutation xs (map indexed sorted)) all (IsPermutation-map indexed held sorted c.sort_unstable.ensures.permutation) in
-    rw (← c.as_slice-revoked.ensures) record {
+    record {
       count = length_permutation held sorted c.sort_unstable.ensures.permutation ∙ sym (length-map held indexed) ∙ ap length all ∙ length_indexed 0 numbers;
       entries = moved;
       answers = answers_first (map indexed sorted) numbers moved
