@@ -28,6 +28,9 @@ pub fn read_run<'a, E: ReadError, T: FromDer<'a, E> + Drop>(
     ensures elements { IfOk result (λ x. (members : List Element) (tail : List ℕ) → Cut i.now members tail → IsBehind i.now members (length x.1) x.0.now) }
 {
     let mut members = Sequence::new(alloc);
+    if members.reserve_within(i.len()).is_err() {
+        return Err(Err::out_of_memory());
+    }
     let mut rest = i;
     let mut plain = true;
     loop {

@@ -182,7 +182,7 @@ impl X509ExtensionParser {
     }
 }
 
-// The loop over extensions at one depth. Room is asked for first: for one in each 32 bytes, and for eight at most.
+// The loop over extensions at one depth. Room is asked for first: for one in each 24 bytes, and for eight at most.
 #[inline(never)]
 fn members<'a, D: Depth<'a>>(
     alloc: Global,
@@ -191,7 +191,7 @@ fn members<'a, D: Depth<'a>>(
 ) -> Result<(&'a [u8], Sequence<X509Extension<'a>>, bool), Err<X509Error>>
     ensures { ReadsMembers D.deep i.now tries.old tries.new result }
 {
-    let mut list = match Vec::with_capacity(alloc, i.len().div_ceil(32).min(8)) {
+    let mut list = match Vec::with_capacity(alloc, i.len().div_ceil(24).min(8)) {
         Ok(room) => Sequence::from_vec(room),
         Err(_) => return Err(Err::out_of_memory()),
     };
