@@ -1,6 +1,6 @@
 //! The objects of a file, in PEM or DER.
 
-ghost use Rattle.std.specs.Prelude.{◌≡◌, ◌++◌, ◌<◌, ◌^◌, IfOk, IfErr, IfSome, flat_map, length, map};
+ghost use Rattle.std.specs.Prelude.{◌≡◌, ◌++◌, ◌<◌, ◌^◌, IfOk, IfErr, IfSome, Some, flat_map, length, map};
 ghost use Rattle.x509_report.specs.Files.{StopsInFile, TellsFile, blocks_told, choice, der_told, elements_told, may_be_der, neither_told, other_told};
 ghost use Rattle.x509_report.specs.Files.{rest_told, task_of};
 ghost use Rattle.x509_report.specs.Told.{Prints};
@@ -188,6 +188,7 @@ pub fn report_file<W: Write>(
     ensures told { IfOk result (TellsFile (task_of asked.now file.now) octets.now printer.old.written printer.new.written) }
     ensures stopped { IfErr result (λ stop. stop ≡ Stop.Memory → StopsInFile (task_of asked.now file.now) octets.now
         printer.old.written printer.new.written) }
+    ensures reason { IfErr result (λ stop. printer.new.stopped ≡ Some stop) }
 {
     printer.begin_file();
     let Ok((elements, rest)) = split_elements(printer.alloc(), octets) else {

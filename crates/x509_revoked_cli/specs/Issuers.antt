@@ -1,5 +1,5 @@
 -- Entries by the text of their issuers' names (RFC 5280, 5.1.2.3 and 5.3.3).
-use Rattle.std.specs.Prelude.{◌≡◌, ◌⊎◌, ◌&&◌, ℕ, Bool, true, false, List, [], ◌∷◌, cond}
+use Rattle.std.specs.Prelude.{◌&&◌, ℕ, Bool, true, false, List, [], ◌∷◌, cond}
 use Rattle.std.specs.List.{list_any}
 use Rattle.std.specs.Str.{bytes_eq}
 use Rattle.x509_general_names.specs.GeneralName.{GeneralNameValue, DirectoryName}
@@ -8,8 +8,6 @@ use Rattle.x509_lists.specs.RevokedCertificate.{Revoked}
 use Rattle.x509_lists.specs.TbsCertList.{TbsList}
 use Rattle.x509_names.specs.Names.{Name}
 use Rattle.x509_names.specs.NameTexts.{shown_name}
-use Rattle.x509_revoked_cli.specs.declared.stop.Stop.{Stop}
-use Rattle.x509_revoked_cli.specs.declared.stop.Stop.TheVariants.{Memory, Unclear}
 
 -- ---- what an entry says of its issuer
 
@@ -39,10 +37,6 @@ is_readable unreadable = false
 abbrev pub are_readable : List Revoked → Bool
 are_readable [] = true
 are_readable (entry ∷ entries) = is_readable (said_by entry.extensions) && are_readable entries
-
--- why there is no answer: memory was refused, or what an entry says can't be read
-abbrev pub StopsFor : Bool → Stop → Type 0
-StopsFor readable stop = (stop ≡ Memory) ⊎ ((stop ≡ Unclear) × (readable ≡ false))
 
 -- ---- the entries of a list
 

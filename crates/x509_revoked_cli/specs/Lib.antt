@@ -1,5 +1,6 @@
 pub mod Answers
 pub mod Serials
+pub mod Stops
 pub mod Issuers
 pub mod Search
 pub mod Reports

@@ -1,5 +1,5 @@
 -- What is said of all serials that are asked for.
-use Rattle.std.specs.Prelude.{◌≡◌, ℕ, List, Bool, Option, flat_map, string_bytes}
+use Rattle.std.specs.Prelude.{◌≡◌, ℕ, List, Bool, Option, cond, flat_map, string_bytes}
 use Rattle.std.specs.List.{list_any}
 use Rattle.x509_lists.specs.RevokedCertificate.{Revoked}
 use Rattle.x509_revoked_cli.specs.Answers.{answer_line, is_revoked}
@@ -17,3 +17,7 @@ any_revoked entry_of serials = list_any (λ s. is_revoked (entry_of (number_of s
 pub record IsReport (entry_of : ℕ → Option Revoked) (serials : List Serial) (report : Report) : Type 0 where
   pub text : string_bytes report.text ≡ report_text entry_of serials
   pub revoked : report.is_any_revoked ≡ any_revoked entry_of serials
+
+-- the status of a run that writes it: 1 where a certificate is revoked, else 0
+abbrev pub status_of : Report → ℕ
+status_of report = cond report.is_any_revoked 1 0

@@ -1,5 +1,5 @@
 -- Serials as words in hex.
-use Rattle.std.specs.Prelude.{ℕ, List, [], ◌∷◌, ◌==◌, ◌%◌, not, cond, Option, Some, None, Result, Ok, Err, filter, length}
+use Rattle.std.specs.Prelude.{◌≡◌, ℕ, List, [], ◌∷◌, ◌==◌, ◌%◌, not, cond, Option, Some, None, Result, Ok, Err, filter, map, length}
 use Rattle.std.specs.Int.Digits.{number_from_digits}
 use Rattle.hex.specs.Hex.{decode_of}
 use Rattle.hex.specs.declared.FromHexError.{FromHexError}
@@ -28,3 +28,8 @@ serial_in word = number_in (digits_in word)
 -- the number of a serial that was read
 abbrev pub number_of : Serial → ℕ
 number_of serial = number_from_digits 256 serial.octets.items
+
+-- a serial for each word, in order, with the number that the word writes
+pub record AreSerialsOf (asked : List (List ℕ)) (serials : List Serial) : Type 0 where
+  pub words : map (λ s. s.word.now) serials ≡ asked
+  pub numbers : map (λ s. Some (number_of s)) serials ≡ map serial_in asked

@@ -7,7 +7,8 @@ ghost use Rattle.x509_lists.specs.EntryIssuers.{said_by};
 ghost use Rattle.x509_lists.specs.ListEntries.{tbs_entries_of};
 ghost use Rattle.x509_lists.specs.RevokedCertificate.{revoked_of};
 ghost use Rattle.x509_names.specs.Names.{name_of};
-ghost use Rattle.x509_revoked_cli.specs.Issuers.{StopsFor, are_readable, entries_under, has_text, is_named, is_readable, is_under};
+ghost use Rattle.x509_revoked_cli.specs.Issuers.{are_readable, entries_under, has_text, is_named, is_readable, is_under};
+ghost use Rattle.x509_revoked_cli.specs.Stops.{StopsFor};
 ghost use Rattle.x509_revoked_cli.specs.declared.stop.Stop.TheVariants.{Memory};
 
 use crate::stop::Stop;

@@ -1,9 +1,9 @@
 //! What a list says of serials, by the index that is kept of it, where one is asked for.
 
-ghost use Rattle.std.specs.Prelude.{◌≡◌, IfOk, Some, option_map};
+ghost use Rattle.std.specs.Prelude.{◌≡◌, IfErr, MatchResult, Some, option_map};
 ghost use Rattle.x509_lists.specs.ListEntries.{tbs_entries_of};
 ghost use Rattle.x509_revoked.specs.OctetsIndex.{indexed_entries};
-ghost use Rattle.x509_revoked_cli.specs.Runs.{IsReportOf};
+ghost use Rattle.x509_revoked_cli.specs.Runs.{IsReportOf, Stopped};
 ghost use Rattle.x509_revoked_cli.specs.Search.{LooksThrough};
 
 use crate::issuers::entries_under;
@@ -23,13 +23,17 @@ pub const STOPPED: u8 = 3;
 const FEW: usize = 16;
 
 /// Tells on standard error why the program stops, and gives its status.
-pub fn stopped<W: fmt::Display>(rt: &HostRuntime, of: &str, why: &W) -> u8 {
+pub fn stopped<W: fmt::Display>(rt: &HostRuntime, of: &str, why: &W) -> u8
+    ensures { Stopped result }
+{
     let _ = eprintln!(rt; "x509_revoked: {of}: {why}");
     STOPPED
 }
 
 /// Writes an index into its file.
-fn keep(rt: &HostRuntime, file: &str, index: &EntriesIndex<'_>) -> Result<(), u8> {
+fn keep(rt: &HostRuntime, file: &str, index: &EntriesIndex<'_>) -> Result<(), u8>
+    ensures { IfErr result Stopped }
+{
     match index.to_bytes(rt.alloc()) {
         Ok(octets) => match fs::write(rt, file, octets.as_slice()) {
             Ok(()) => Ok(()),
@@ -45,7 +49,7 @@ fn kept_index<'a>(
     file: &str,
     tbs: &TbsCertListEntries<'a>,
 ) -> Result<EntriesIndex<'a>, u8>
-    ensures { IfOk result (λ index. indexed_entries index ≡ (tbs_entries_of tbs.now).revoked_certificates) }
+    ensures { MatchResult result (λ index. indexed_entries index ≡ (tbs_entries_of tbs.now).revoked_certificates) Stopped }
 {
     let entries = &tbs.revoked_certificates;
     match fs::read(rt, file) {
@@ -80,7 +84,7 @@ fn search_under<'a>(
     tbs: &TbsCertListEntries<'a>,
     text: &str,
 ) -> Result<Search<'a>, u8>
-    ensures { IfOk result (LooksThrough (tbs_entries_of tbs.now) (Some text.now)) }
+    ensures { MatchResult result (LooksThrough (tbs_entries_of tbs.now) (Some text.now)) Stopped }
 {
     let entries = match entries_under(rt.alloc(), tbs, text) {
         Ok(entries) => entries,
@@ -102,7 +106,7 @@ fn search_for<'a>(
     tbs: &TbsCertListEntries<'a>,
     count: usize,
 ) -> Result<Search<'a>, u8>
-    ensures { IfOk result (LooksThrough (tbs_entries_of tbs.now) (option_map (λ text. text.now) options.now.issuer)) }
+    ensures { MatchResult result (LooksThrough (tbs_entries_of tbs.now) (option_map (λ text. text.now) options.now.issuer)) Stopped }
 {
     let entries = &tbs.revoked_certificates;
     if let Some(text) = options.issuer {
@@ -126,7 +130,7 @@ pub fn lines_of_list(
     octets: &[u8],
     serials: &[Serial<'_>],
 ) -> Result<Report, u8>
-    ensures { IfOk result (IsReportOf octets.now (option_map (λ text. text.now) options.now.issuer) serials.now) }
+    ensures { MatchResult result (IsReportOf octets.now (option_map (λ text. text.now) options.now.issuer) serials.now) Stopped }
 {
     let list = match parse_x509_crl_entries_located(rt.alloc(), octets) {
         Ok((_, list)) => list,

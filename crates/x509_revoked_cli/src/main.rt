@@ -10,6 +10,10 @@ mod search;
 mod serials;
 mod stop;
 
+ghost use Rattle.std.specs.Prelude.{MatchResult, map, option_map, string_bytes};
+ghost use Rattle.x509_revoked_cli.specs.Runs.{Answered, Unanswered};
+ghost use Rattle.x509_revoked_cli.specs.Serials.{AreSerialsOf};
+
 use crate::looking::{STOPPED, lines_of_list, stopped};
 use crate::options::{Options, parse_options};
 use crate::serials::{Serial, parse_serial};
@@ -19,12 +23,9 @@ use std::io::{BufRead, Write};
 use std::process::ExitCode;
 use std::{env, fs, io};
 
-/// No certificate is revoked.
-const NONE: u8 = 0;
-/// A certificate is.
-const SOME: u8 = 1;
 /// The command line has other words.
 const WORDS: u8 = 2;
+
 /// The words for serials: those of the command line, and where `-` stands, those on standard input, one a line.
 fn words_of(rt: &HostRuntime, options: &Options<'_>) -> io::Result<Vec<String>> {
     let alloc: Global = rt.alloc();
@@ -45,7 +46,9 @@ fn words_of(rt: &HostRuntime, options: &Options<'_>) -> io::Result<Vec<String>> 
 }
 
 /// The serials that words write.
-fn serials_of<'w>(rt: &HostRuntime, words: &'w [String]) -> Result<Vec<Serial<'w>>, u8> {
+fn serials_of<'w>(rt: &HostRuntime, words: &'w [String]) -> Result<Vec<Serial<'w>>, u8>
+    ensures { MatchResult result (λ serials. AreSerialsOf (map string_bytes words.now) serials.items) Unanswered }
+{
     let alloc: Global = rt.alloc();
     let mut serials = Vec::new(alloc);
     for word in words {
@@ -66,7 +69,9 @@ fn serials_of<'w>(rt: &HostRuntime, words: &'w [String]) -> Result<Vec<Serial<'w
 }
 
 /// Answers all serials, and gives the status.
-fn answer(rt: &HostRuntime, options: &Options<'_>) -> Result<u8, u8> {
+fn answer(rt: &HostRuntime, options: &Options<'_>) -> Result<u8, u8>
+    ensures { MatchResult result (Answered (option_map (λ text. text.now) options.now.issuer)) Unanswered }
+{
     let words = match words_of(rt, options) {
         Ok(words) => words,
         Err(why) => return Err(stopped(rt, "-", &why)),
@@ -78,7 +83,7 @@ fn answer(rt: &HostRuntime, options: &Options<'_>) -> Result<u8, u8> {
     };
     let report = lines_of_list(rt, options, octets.as_slice(), serials.as_slice())?;
     match io::writer(rt).write_all(report.text.as_bytes()) {
-        Ok(()) => Ok(if report.is_any_revoked { SOME } else { NONE }),
+        Ok(()) => Ok(report.status()),
         Err(why) => Err(stopped(rt, "standard output", &why)),
     }
 }

@@ -1,8 +1,9 @@
 //! Where entries are looked for.
 
-ghost use Rattle.std.specs.Prelude.{◌≡◌, IfOk, map, option_map, slice_get};
+ghost use Rattle.std.specs.Prelude.{◌≡◌, MatchResult, map, option_map, slice_get};
 ghost use Rattle.x509_der.specs.Unsigned.{unsigned_number};
 ghost use Rattle.x509_lists.specs.RevokedCertificate.{revoked_of};
+ghost use Rattle.x509_revoked_cli.specs.declared.stop.Stop.TheVariants.{Memory};
 
 use crate::stop::Stop;
 use std::alloc::Global;
@@ -27,7 +28,7 @@ fn copy_at<'a>(
     entries: &[RevokedCertificate<'a>],
     position: usize,
 ) -> Result<Option<RevokedCertificate<'a>>, Stop>
-    ensures { IfOk result (λ entry. option_map revoked_of entry ≡ slice_get (map revoked_of entries.now) position) }
+    ensures { MatchResult result (λ entry. option_map revoked_of entry ≡ slice_get (map revoked_of entries.now) position) (λ stop. stop ≡ Memory) }
 {
     match entries.get(position) {
         Some(entry) => match entry.try_clone() {
@@ -47,7 +48,7 @@ impl<'a> Search<'a> {
         alloc: Global,
         serial: &UnsignedBytes<'_>,
     ) -> Result<Option<RevokedCertificate<'a>>, Stop>
-        ensures { IfOk result (λ entry. option_map revoked_of entry ≡ found_in self.now (unsigned_number serial.now)) }
+        ensures { MatchResult result (λ entry. option_map revoked_of entry ≡ found_in self.now (unsigned_number serial.now)) (λ stop. stop ≡ Memory) }
     {
         match self {
             Search::Scan(entries) => match entries.find(alloc, serial) {

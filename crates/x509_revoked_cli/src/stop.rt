@@ -1,6 +1,7 @@
 //! Why there is no answer.
 
 ghost use Rattle.std.specs.Prelude.{◌≡◌};
+ghost use Rattle.x509_revoked_cli.specs.Stops.{why_words};
 ghost use Rattle.x509_revoked_cli.specs.declared.stop.Stop.{Stop};
 
 use std::alloc::{AllocError, AllocFailed};
@@ -16,7 +17,9 @@ pub enum Stop {
 
 impl Stop {
     /// Why, in the words that standard error is told.
-    pub fn why(self) -> &'static str {
+    pub fn why(self) -> &'static str
+        ensures { result.now ≡ why_words self }
+    {
         match self {
             Stop::Memory => "out of memory",
             Stop::Unclear => "the issuer of an entry can't be read",

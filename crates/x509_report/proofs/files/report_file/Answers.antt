@@ -1,5 +1,5 @@
 -- What the printer tells at the end.
-use Rattle.std.proofs.Common.{◌≡◌, ℕ, true, List, [], Option, Some, None, IfErr, IfOk, inl, inr, map, refl, subst, sym, ap, ◌∙◌}
+use Rattle.std.proofs.Common.{◌≡◌, ℕ, Bool, true, List, [], Option, Some, None, IfErr, IfOk, inl, inr, map, refl, subst, sym, ap, ◌∙◌}
 use Rattle.std.specs.Io.KnownBytes.{Appends}
 use Rattle.std.proofs.KnownBytes.{Appends-nil}
 use Rattle.x509_report.specs.Files.{IsFileTold, StopsInFile, Task, TellsFile, choice, task_of}
@@ -10,6 +10,10 @@ use Rattle.x509_report.proofs.files.report_file.Goals as goal
 
 abbrev begun : Printed → Printed
 begun p = record p { taken = true }
+
+because : (x : Option Stop) (taken : Bool) → IfErr (outcome_of x taken) (λ stop. x ≡ Some stop)
+because None taken = tt
+because (Some e) taken = refl
 
 module _ (t : Task) (octets : List ℕ) (old new : Printed) (told : Told) (is : IsFileTold t octets told) where
   tells : (x : Option Stop) → Tells x (begun old) new told → IfOk (outcome_of x new.taken) (TellsFile t octets old.written new.written)
@@ -37,6 +41,7 @@ returns g c =
       told = subst (λ r. IfOk r (TellsFile t octets old.written new.written)) (sym c.finish-2.ensures) (tells t octets old new told is new.stopped p.lines);
       stopped = subst (λ r. IfErr r (λ stop. stop ≡ why.Memory → StopsInFile t octets old.written new.written)) (sym c.finish-2.ensures)
           (stops t octets old new told is new.stopped p.lines);
+      reason = subst (λ r. IfErr r (λ stop. new.stopped ≡ Some stop)) (sym c.finish-2.ensures) (because new.stopped new.taken);
     }
 
 pub returns-in_default : goal.returns-in_default
@@ -51,4 +56,5 @@ returns-in_default g c =
       told = subst (λ r. IfOk r (TellsFile t octets old.written new.written)) (sym result) tt;
       stopped = subst (λ r. IfErr r (λ stop. stop ≡ why.Memory → StopsInFile t octets old.written new.written)) (sym result)
           (λ h. inl (subst (λ p. Appends old.written p.written []) (sym same) (Appends-nil old.written)));
+      reason = subst (λ r. IfErr r (λ stop. new.stopped ≡ Some stop)) (sym c.finish.ensures) (because new.stopped new.taken);
     }
