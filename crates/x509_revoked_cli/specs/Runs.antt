@@ -6,7 +6,6 @@ use Rattle.x509_lists.specs.CertificateList.{certificate_list}
 use Rattle.x509_lists.specs.TbsCertList.{TbsList}
 use Rattle.x509_revoked_cli.specs.Reports.{IsReport, status_of}
 use Rattle.x509_revoked_cli.specs.Search.{LooksThrough, found_in}
-use Rattle.x509_revoked_cli.specs.Serials.{AreSerialsOf}
 use Rattle.x509_revoked_cli.specs.declared.report.Report.{Report}
 use Rattle.x509_revoked_cli.specs.declared.search.Search.{Search}
 use Rattle.x509_revoked_cli.specs.declared.serials.Serial.{Serial}
@@ -30,12 +29,8 @@ Stopped status = status ≡ 3
 abbrev pub Unanswered : ℕ → Type 0
 Unanswered status = (status ≡ 2) ⊎ Stopped status
 
--- that of the report of some list for the serials that some words write
-pub record Answered (issuer : Option (List ℕ)) (status : ℕ) : Type 0 where
-  pub input : List ℕ
-  pub words : List (List ℕ)
-  pub serials : List Serial
+-- that of the report of the list in this input for these serials
+pub record Answered (issuer : Option (List ℕ)) (input : List ℕ) (serials : List Serial) (status : ℕ) : Type 0 where
   pub report : Report
-  pub asked : AreSerialsOf words serials
   pub reports : IsReportOf input issuer serials report
   pub tells : status ≡ status_of report

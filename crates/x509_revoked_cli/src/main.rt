@@ -10,9 +10,10 @@ mod search;
 mod serials;
 mod stop;
 
-ghost use Rattle.std.specs.Prelude.{MatchResult, map, option_map, string_bytes};
-ghost use Rattle.x509_revoked_cli.specs.Runs.{Answered, Unanswered};
+ghost use Rattle.std.specs.Prelude.{List, MatchResult, map, option_map, string_bytes, ℕ};
+ghost use Rattle.x509_revoked_cli.specs.Runs.{Answered, Stopped, Unanswered};
 ghost use Rattle.x509_revoked_cli.specs.Serials.{AreSerialsOf};
+ghost use Rattle.x509_revoked_cli.specs.declared.serials.Serial.{Serial};
 
 use crate::looking::{STOPPED, lines_of_list, stopped};
 use crate::options::{Options, parse_options};
@@ -68,23 +69,35 @@ fn serials_of<'w>(rt: &HostRuntime, words: &'w [String]) -> Result<Vec<Serial<'w
     Ok(serials)
 }
 
+/// Writes the lines of serials by the list at the front of the octets, and gives the status.
+fn answer_serials(
+    rt: &HostRuntime,
+    options: &Options<'_>,
+    octets: &[u8],
+    serials: &[Serial<'_>],
+) -> Result<u8, u8>
+    ensures { MatchResult result (Answered (option_map (λ text. text.now) options.now.issuer) octets.now serials.now) Stopped }
+{
+    let report = lines_of_list(rt, options, octets, serials)?;
+    match io::writer(rt).write_all(report.text.as_bytes()) {
+        Ok(()) => Ok(report.status()),
+        Err(why) => Err(stopped(rt, "standard output", &why)),
+    }
+}
+
 /// Answers all serials, and gives the status.
 fn answer(rt: &HostRuntime, options: &Options<'_>) -> Result<u8, u8>
-    ensures { MatchResult result (Answered (option_map (λ text. text.now) options.now.issuer)) Unanswered }
+    ensures { MatchResult result
+        (λ status. (input : List ℕ) × (serials : List Serial) × Answered (option_map (λ text. text.now) options.now.issuer) input serials status) Unanswered }
 {
     let words = match words_of(rt, options) {
         Ok(words) => words,
         Err(why) => return Err(stopped(rt, "-", &why)),
     };
     let serials = serials_of(rt, words.as_slice())?;
-    let octets = match fs::read(rt, options.list) {
-        Ok(octets) => octets,
-        Err(why) => return Err(stopped(rt, options.list, &why)),
-    };
-    let report = lines_of_list(rt, options, octets.as_slice(), serials.as_slice())?;
-    match io::writer(rt).write_all(report.text.as_bytes()) {
-        Ok(()) => Ok(report.status()),
-        Err(why) => Err(stopped(rt, "standard output", &why)),
+    match fs::read(rt, options.list) {
+        Ok(octets) => answer_serials(rt, options, octets.as_slice(), serials.as_slice()),
+        Err(why) => Err(stopped(rt, options.list, &why)),
     }
 }
 
